@@ -9,7 +9,7 @@ use Rattle.oidc_words.specs.Types.{spellings}
 use Rattle.sso_base.specs.Texts.{has_text}
 use Rattle.oidc_words.specs.Words.{parameter_words}
 use Rattle.client_registry.specs.declared.records.Client.{Client}
-use Rattle.client_registry.specs.Records.{provider_of}
+use Rattle.client_registry.specs.Records.{provider_of, usual_settings}
 use Rattle.client_registry.specs.Configuration.{Configuration}
 use Rattle.request_params.specs.declared.params.Params.{Params}
 use Rattle.auth_request.specs.declared.wish.Wish.{Wish}
@@ -157,7 +157,7 @@ abbrev shop : Client
 shop = client (codes "shop") (true ∷ false ∷ false ∷ true ∷ false ∷ false ∷ [])
 
 abbrev shops : Configuration
-shops = record { provider = provider_of []; prefix = []; listen = []; secure = true; users = []; clients = shop ∷ []; parties = []; subjects = [] ∷ []; lasting = false; full_pages = false; title = [] }
+shops = record { provider = provider_of []; prefix = []; listen = []; secure = true; users = []; clients = shop ∷ []; parties = []; subjects = [] ∷ []; lasting = false; full_pages = false; title = []; settings = usual_settings }
 
 -- a request of the shop client
 abbrev good : Params

@@ -164,7 +164,7 @@ module _ (v : Version) where
   abbrev type_text : Data → List ℕ
   type_text d = text_or (codes "response_type") (codes "code") d
 
-  fits_row : (parties : List Data) (known : List Client) (clients : List Data) (i : ℕ) (d : Data) (place : ℕ) → Within parties d → PartyLists clients i d → (n : Named parties clients d place) → FitsClient (party_of known d) (client_of_row v n.row)
+  fits_row : (parties : List Data) (known : List Client) (clients : List Data) (i : ℕ) (d : Data) (place : ℕ) → Within parties d → PartyLists clients i d → (n : Named parties clients d place) → FitsClient (party_of v known d) (client_of_row v n.row)
   unfolding party_of
   fits_row parties known clients i d place within l named =
       let r = row.Party i in
@@ -184,7 +184,7 @@ module _ (v : Version) where
       record {
         redirect = ap (λ t. has_text t (texts_at (codes "redirect_uris") client)) (or_else (text_at (codes "redirect_uri") d) u.text [] u.text_there) ∙ meant (has_text u.text (texts_at (codes "redirect_uris") client)) both.0;
         logout = ap (λ (o : Option WebUrl). keys.has_path (unwrap_or o no_url).path (url_at (codes "logout_uri") client)) u.url_there ∙ both.1;
-        logout_of = logout_at parties d named.kept.id.value (party_of known d) (url_at (codes "logout_uri") client) within url named.uses misplaced;
+        logout_of = logout_at parties d named.kept.id.value (party_of v known d) (url_at (codes "logout_uri") client) within url named.uses misplaced;
         number = n;
         types = ap types_of_number number;
         has_type = type_at (keys.response_texts client) n (number_below (type_text d) n number) (not_lacking client (type_text d) n number lacks);
@@ -193,25 +193,25 @@ module _ (v : Version) where
   fits_at : (p : Party) (o : Option Client) (k : Client) → o ≡ Some k → FitsClient p k → IfSome o (FitsClient p)
   fits_at p o k is h = subst (λ q. IfSome q (FitsClient p)) (sym is) h
 
-  party_fits : (parties clients : List Data) (i : ℕ) (d : Data) → Within parties d → AllByRecursion (ClientKept parties) clients → keys.party_row clients i d ≡ [] → (party_of (map (client_of_row v) clients) d).client < length (map (client_of_row v) clients)
-      → IfSome (slice_get (map (client_of_row v) clients) (party_of (map (client_of_row v) clients) d).client) (FitsClient (party_of (map (client_of_row v) clients) d))
+  party_fits : (host : Bool) (parties clients : List Data) (i : ℕ) (d : Data) → Within parties d → AllByRecursion (ClientKept parties) clients → keys.party_row v host clients i d ≡ [] → (party_of v (map (client_of_row v) clients) d).client < length (map (client_of_row v) clients)
+      → IfSome (slice_get (map (client_of_row v) clients) (party_of v (map (client_of_row v) clients) d).client) (FitsClient (party_of v (map (client_of_row v) clients) d))
   unfolding party_of
-  party_fits parties clients i d within ids h less =
+  party_fits host parties clients i d within ids h less =
       let known : List Client = map (client_of_row v) clients in
-      let l : PartyLists clients i d = party_lists clients i d h in
+      let l : PartyLists clients i d = party_lists v host clients i d h in
       let k : KeptText text.Any (codes "client") d = kept_text (row.Party i) d (codes "client") text.Any l.client in
       let id : List ℕ = text_or (codes "client") [] d in
       let place : ℕ = unwrap_or (client_place id known) (length known) in
       let n : Named parties clients d place = named_by parties clients d place k (found parties id clients 0 place ids (known_place (client_place id known) (length known) less)) in
-      fits_at (party_of known d) (slice_get known place) (client_of_row v n.row) n.client (fits_row parties known clients i d place within l n)
+      fits_at (party_of v known d) (slice_get known place) (client_of_row v n.row) n.client (fits_row parties known clients i d place within l n)
 
-  fit_from : (parties clients : List Data) (n : ℕ) (rows : List Data) → AllByRecursion (Within parties) rows → AllByRecursion (ClientKept parties) clients → AllFrom (λ i d. keys.party_row clients i d ≡ []) n rows
-      → AllByRecursion (λ (p : Party). p.client < length (map (client_of_row v) clients)) (map (party_of (map (client_of_row v) clients)) rows)
-      → AllByRecursion (λ (p : Party). IfSome (slice_get (map (client_of_row v) clients) p.client) (FitsClient p)) (map (party_of (map (client_of_row v) clients)) rows)
-  fit_from parties clients n [] within ids h known = tt
-  fit_from parties clients n (d ∷ ds) within ids h known = (party_fits parties clients n d within.0 ids h.0 known.0, fit_from parties clients (n + 1) ds within.1 ids h.1 known.1)
+  fit_from : (host : Bool) (parties clients : List Data) (n : ℕ) (rows : List Data) → AllByRecursion (Within parties) rows → AllByRecursion (ClientKept parties) clients → AllFrom (λ i d. keys.party_row v host clients i d ≡ []) n rows
+      → AllByRecursion (λ (p : Party). p.client < length (map (client_of_row v) clients)) (map (party_of v (map (client_of_row v) clients)) rows)
+      → AllByRecursion (λ (p : Party). IfSome (slice_get (map (client_of_row v) clients) p.client) (FitsClient p)) (map (party_of v (map (client_of_row v) clients)) rows)
+  fit_from host parties clients n [] within ids h known = tt
+  fit_from host parties clients n (d ∷ ds) within ids h known = (party_fits host parties clients n d within.0 ids h.0 known.0, fit_from host parties clients (n + 1) ds within.1 ids h.1 known.1)
 
-  pub parties_fit : (parties clients : List Data) → each (keys.client_row v parties) clients ≡ [] → each (keys.party_row clients) parties ≡ []
-      → AllByRecursion (λ (p : Party). p.client < length (map (client_of_row v) clients)) (map (party_of (map (client_of_row v) clients)) parties)
-      → AllByRecursion (λ (p : Party). IfSome (slice_get (map (client_of_row v) clients) p.client) (FitsClient p)) (map (party_of (map (client_of_row v) clients)) parties)
-  parties_fit parties clients h g known = fit_from parties clients 0 parties (all_within parties) (clients_kept parties clients h) (each_nil (keys.party_row clients) 0 parties g) known
+  pub parties_fit : (host : Bool) (parties clients : List Data) → each (keys.client_row v parties) clients ≡ [] → each (keys.party_row v host clients) parties ≡ []
+      → AllByRecursion (λ (p : Party). p.client < length (map (client_of_row v) clients)) (map (party_of v (map (client_of_row v) clients)) parties)
+      → AllByRecursion (λ (p : Party). IfSome (slice_get (map (client_of_row v) clients) p.client) (FitsClient p)) (map (party_of v (map (client_of_row v) clients)) parties)
+  parties_fit host parties clients h g known = fit_from host parties clients 0 parties (all_within parties) (clients_kept parties clients h) (each_nil (keys.party_row v host clients) 0 parties g) known

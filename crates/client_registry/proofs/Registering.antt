@@ -17,20 +17,23 @@ use Rattle.sso_base.specs.Texts.{has_text}
 use Rattle.client_registry.specs.Records.{no_url, without_slash, client_place, party_of, users_of, clients_of, parties_of}
 use Rattle.client_registry.specs.Rules as rule
 use Rattle.client_registry.specs.Rules.{records_refusals, subjects_refusals}
-use Rattle.configuration_rows.specs.Values.{rows_at}
+use Rattle.configuration_rows.specs.Values.{rows_at, url_at}
+use Rattle.configuration_rows.specs.Paths.{path_text}
+use Rattle.configuration_rows.specs.declared.row.Row.TheVariants as row
+use Rattle.configuration_rows.specs.declared.version.Version.{Version}
 use Rattle.configuration_rows.specs.Versions.{version_in}
 use Rattle.client_registry.specs.Secrets.{old_in, secrets, has_secret, all_secrets}
 use Rattle.client_registry.specs.Configuration.{configuration_of, provider_table, issuer_of, salt_of}
-use Rattle.client_registry.specs.Registered.{AreApart, NumbersAreApart, HasNoneOf, AreDisjoint, IsUser, AllHoldClaims, IsIssuerUrl, IsRegistry}
+use Rattle.client_registry.specs.Registered.{AreApart, NumbersAreApart, HasNoneOf, AreDisjoint, IsUser, AllHoldClaims, IsIssuerUrl, KeepsSettings, IsRegistry}
 use Rattle.registered_url.specs.declared.web_url.WebUrl.{WebUrl}
 use Rattle.registered_url.specs.Rule.{url_of}
-use Rattle.configuration_rows.specs.Rows.{rows_refusals}
+use Rattle.configuration_rows.specs.Rows.{rows_refusals, host_cookies_in}
 use Rattle.client_registry.proofs.SpelledBytes.{hex_is_bytes}
-use Rattle.client_registry.proofs.RowFacts.{ProviderKept, provider_kept}
+use Rattle.client_registry.proofs.RowFacts.{ProviderKept, provider_kept, ServerKept, servers_kept}
 use Rattle.client_registry.proofs.SecretFacts.{IsOther, secrets_list}
 use Rattle.client_registry.proofs.PartyFacts.{parties_fit}
 use Rattle.client_registry.proofs.SubjectFacts.{rows_of_subjects}
-use Rattle.client_registry.proofs.RowRules.{RowsKeep, rows_keep_rules, users_keep, clients_keep, parties_keep}
+use Rattle.client_registry.proofs.RowRules.{RowsKeep, rows_keep_rules, users_keep, clients_keep, parties_keep, https_at, parties_are_https}
 use Rattle.client_registry.proofs.Guiltless.{front_nil, back_nil, unmet, either_false, AllFrom, each_nil, all_weaker, all_rows, Once, Apart, apart}
 
 -- ---- from rows that are apart to lists that are
@@ -150,16 +153,16 @@ place_within : {A : Type 0} (f : A → Bool) (n m : ℕ) (xs : List A) → n + l
 place_within f n m [] h = omega arith
 place_within f n m (x ∷ xs) h = found_within (f x) n m (position_from f (n + 1) xs) (omega (arith, h)) (place_within f (n + 1) m xs (omega (arith, h)))
 
-party_within : (clients : List Client) (d : Data) → (party_of clients d).client ≤ length clients
+party_within : (v : Version) (clients : List Client) (d : Data) → (party_of v clients d).client ≤ length clients
 unfolding party_of
-party_within clients d = place_within _ 0 (length clients) clients (omega arith)
+party_within v clients d = place_within _ 0 (length clients) clients (omega arith)
 
 every : {A : Type 0} (P : A → Type 0) (xs : List A) → ((x : A) → P x) → AllByRecursion P xs
 every P [] f = tt
 every P (x ∷ xs) f = (f x, every P xs f)
 
-parties_within : (clients : List Client) (rows : List Data) → AllByRecursion (λ (p : Party). p.client ≤ length clients) (map (party_of clients) rows)
-parties_within clients rows = all_mapped (λ (p : Party). p.client ≤ length clients) (party_of clients) rows (every _ rows (party_within clients))
+parties_within : (v : Version) (clients : List Client) (rows : List Data) → AllByRecursion (λ (p : Party). p.client ≤ length clients) (map (party_of v clients) rows)
+parties_within v clients rows = all_mapped (λ (p : Party). p.client ≤ length clients) (party_of v clients) rows (every _ rows (party_within v clients))
 
 all_both : {A : Type 0} (P Q R : A → Type 0) (xs : List A) → ((x : A) → P x → Q x → R x) → AllByRecursion P xs → AllByRecursion Q xs → AllByRecursion R xs
 all_both P Q R [] f p q = tt
@@ -330,6 +333,19 @@ issuer_url root i = record {
   secure = ap (λ (o : Option WebUrl). (unwrap_or o no_url).secure) i.there;
 }
 
+-- the settings are within their bounds
+settings_kept : (root : Data) → RowsKeep root → ProviderKept (provider_table root) → KeepsSettings (configuration_of root)
+unfolding configuration_of
+settings_kept root w i =
+    let v : Version = version_in root in
+    let t : Data = provider_table root in
+    let s : ServerKept v t = servers_kept v t w.provider in
+    record {
+      issuer_https = https_at (host_cookies_in root) (no.WrongKind (path_text row.Provider (codes "cookies"))) (url_at (codes "issuer") t) s.issuer (ap is_some i.there);
+      parties_https = parties_are_https v t (clients_of root) (rows_at (codes "client") root) (rows_at (codes "party") root) w.parties;
+      workers = s.workers;
+    }
+
 if_url : (P : WebUrl → Type 0) (o : Option WebUrl) (u : WebUrl) → o ≡ Some u → P u → IfSome o P
 if_url P o u is h = subst (λ q. IfSome q P) (sym is) h
 
@@ -341,7 +357,7 @@ registered root f r h s =
     let g : Guiltless (issuer_of root) (users_of root) (clients_of root) (parties_of root) = guiltless (issuer_of root) (users_of root) (clients_of root) (parties_of root) h in
     let us : AllByRecursion IsUser (users_of root) = users_keep (rows_at (codes "user") root) w.users g.user_sizes in
     let cs : AllFrom (ClientOnce (issuer_of root) (clients_of root)) 0 (clients_of root) = clients_once (issuer_of root) (clients_of root) g.client_twice in
-    let known : AllByRecursion (λ (p : Party). p.client < length (clients_of root)) (parties_of root) = clients_known (clients_of root) (parties_of root) (parties_within (clients_of root) (rows_at (codes "party") root)) g.unknown in
+    let known : AllByRecursion (λ (p : Party). p.client < length (clients_of root)) (parties_of root) = clients_known (clients_of root) (parties_of root) (parties_within (version_in root) (clients_of root) (rows_at (codes "party") root)) g.unknown in
     let ps : AllFrom (PartyOnce (parties_of root)) 0 (parties_of root) = parties_once (clients_of root) (parties_of root) g.party_twice known in
     record {
       users = g.few_users;
@@ -355,7 +371,7 @@ registered root f r h s =
       party_names = party_names_apart (parties_of root) ps;
       not_op = parties_not_op (parties_of root) (parties_of root) ps;
       known = known;
-      fitting = parties_fit (version_in root) (rows_at (codes "party") root) (rows_at (codes "client") root) w.clients w.parties known;
+      fitting = parties_fit (version_in root) (host_cookies_in root) (rows_at (codes "party") root) (rows_at (codes "client") root) w.clients w.parties known;
       one_party = uses_apart (parties_of root) ps;
       rows = length_mapped (rule.subjects_at (salt_of root) (users_of root)) (clients_of root);
       subjects = rows_apart (salt_of root) (users_of root) (clients_of root) s;
@@ -370,7 +386,8 @@ registered root f r h s =
       user_claims = f;
       user_rules = us;
       client_rules = clients_keep (version_in root) (rows_at (codes "party") root) (rows_at (codes "client") root) w.clients g.short_secrets g.mixed_hosts;
-      party_rules = parties_keep (clients_of root) (rows_at (codes "client") root) (rows_at (codes "party") root) w.parties;
+      party_rules = parties_keep (version_in root) (host_cookies_in root) (clients_of root) (rows_at (codes "client") root) (rows_at (codes "party") root) w.parties;
+      settings = settings_kept root w i;
     }
 
 pub registered_from : (root : Data) (issuer salt : List ℕ) (users : List User) (clients : List Client) (parties : List Party) → issuer ≡ issuer_of root → salt ≡ salt_of root → users ≡ users_of root → clients ≡ clients_of root → parties ≡ parties_of root

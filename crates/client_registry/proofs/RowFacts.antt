@@ -15,10 +15,12 @@ use Rattle.configuration_rows.specs.declared.kind.Alphabet.TheVariants.{Visible}
 use Rattle.configuration_rows.specs.declared.kind.Breach.{Breach}
 use Rattle.configuration_rows.specs.declared.kind.Breach.TheVariants.{WrongKind, BadUrl}
 use Rattle.configuration_rows.specs.declared.version.Version.{Version}
+use Rattle.configuration_rows.specs.declared.version.Version.TheVariants as version
 use Rattle.configuration_rows.specs.Paths.{path_text}
 use Rattle.configuration_rows.specs.Values.{as_natural, as_texts, hex_bytes, text_at, text_or, natural_at, hex_at, texts_at, url_at}
 use Rattle.configuration_rows.specs.Kinds.{passes, unless, is_within, is_name, text_keeps, breach, are_urls, urls_breach, url_breach, issuer_breach, issuer_text_breach}
 use Rattle.configuration_rows.specs.Rows as keys
+use Rattle.client_registry.specs.Records.{workers_in, workers_of}
 use Rattle.client_registry.proofs.Guiltless.{front_nil, back_nil}
 
 no_cons : {A B : Type 0} (x : A) (xs : List A) → x ∷ xs ≡ [] → B
@@ -203,13 +205,56 @@ pub record ProviderKept (d : Data) : Type 0 where
   pub listen : is_name Visible 1 64 (text_or (codes "listen") [] d) ≡ true
   pub salt : is_within 16 64 (length (hex_at (codes "salt") d)) ≡ true
 
+-- ---- keys of the second version
+
+within_by : (n : ℕ) (b : Bool) → is_within 4 64 n ≡ true → is_within 4 64 (cond b n 4) ≡ true
+within_by n true h = h
+within_by n false h = refl
+
+workers_at : (o : Option Data) → (o ≡ None) ⊎ Kept (kind.Number 4 64) o → is_within 4 64 (workers_in (option_and_then as_natural o)) ≡ true
+workers_at o (inl none) = ap (λ q. is_within 4 64 (workers_in (option_and_then as_natural q))) none
+workers_at o (inr k) =
+    let p : Passing (is_within 4 64) (as_natural k.value) = number_in 4 64 k.value k.kept in
+    ap (λ q. is_within 4 64 (workers_in (option_and_then as_natural q))) k.there
+    ∙ ap (λ q. is_within 4 64 (workers_in q)) p.there
+    ∙ within_by p.value (nat_le p.value 64) p.passed
+
+-- the number of workers is in its bounds
+pub workers_kept : (r : Row) (d : Data) → keys.workers_key r d ≡ [] → is_within 4 64 (workers_in (natural_at (codes "workers") d)) ≡ true
+workers_kept r d h = workers_at (get (codes "workers") d) (optional_at (path_text r (codes "workers")) (kind.Number 4 64) (get (codes "workers") d) h)
+
+-- what the keys for servers say, where nothing is noted of them
+pub record ServerKept (v : Version) (d : Data) : Type 0 where
+  pub issuer : keys.issuer_rule (keys.host_cookies v d) d ≡ []
+  pub workers : is_within 4 64 (workers_of v d) ≡ true
+
+server_kept : (v : Version) (d : Data) → keys.server_keys v d ≡ [] → ServerKept v d
+server_kept version.First d h = record { issuer = refl; workers = refl }
+server_kept version.Second d h =
+    let a : List RegNo = keys.optional row.Provider d (codes "cookies") (kind.Text text.Cookies) in
+    let b : List RegNo = keys.issuer_rule (keys.host_cookies version.Second d) d in
+    let c : List RegNo = keys.workers_key row.Provider d in
+    record { issuer = back_nil a b (front_nil (a ++ b) c h); workers = workers_kept row.Provider d (back_nil (a ++ b) c h) }
+
+-- the keys of the provider's row before these
+abbrev provider_front : Version → Data → List RegNo
+provider_front v d =
+    keys.required row.Provider d (codes "issuer") kind.Issuer
+    ++ keys.required row.Provider d (codes "listen") (kind.Text (text.Name Visible 1 64))
+    ++ keys.required row.Provider d (codes "salt") (kind.Text (text.Hex 16 64))
+    ++ keys.history_key v d
+    ++ keys.page_keys v d
+
+pub servers_kept : (v : Version) (d : Data) → keys.provider_row v d ≡ [] → ServerKept v d
+servers_kept v d w = server_kept v d (back_nil (provider_front v d) (keys.server_keys v d) w)
+
 pub provider_kept : (v : Version) (d : Data) → keys.provider_row v d ≡ [] → ProviderKept d
 provider_kept v d w =
     let a : List RegNo = keys.required row.Provider d (codes "issuer") kind.Issuer in
     let b : List RegNo = keys.required row.Provider d (codes "listen") (kind.Text (text.Name Visible 1 64)) in
     let c : List RegNo = keys.required row.Provider d (codes "salt") (kind.Text (text.Hex 16 64)) in
     let e : List RegNo = keys.history_key v d in
-    let abce : ((a ++ b) ++ c) ++ e ≡ [] = front_nil (((a ++ b) ++ c) ++ e) (keys.page_keys v d) w in
+    let abce : ((a ++ b) ++ c) ++ e ≡ [] = front_nil (((a ++ b) ++ c) ++ e) (keys.page_keys v d) (front_nil ((((a ++ b) ++ c) ++ e) ++ keys.page_keys v d) (keys.server_keys v d) w) in
     let h : (a ++ b) ++ c ≡ [] = front_nil ((a ++ b) ++ c) e abce in
     let ab : a ++ b ≡ [] = front_nil (a ++ b) c h in
     let k : Kept kind.Issuer (get (codes "issuer") d) = kept_at (path_text row.Provider (codes "issuer")) kind.Issuer (get (codes "issuer") d) (front_nil a b ab) in

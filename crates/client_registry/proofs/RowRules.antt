@@ -1,7 +1,7 @@
 -- The records of rows that are guilty of nothing keep the rules of their rows.
-use Rattle.std.proofs.Common.{◌≡◌, ◌≤◌, ◌==◌, ◌&&◌, ℕ, Bool, true, false, cond, List, [], ◌∷◌, ◌++◌, length, map, replicate, nat_le, nat_lt, codes, Option, Some, None, option_and_then, unwrap_or, ◌||◌, ◌⊎◌, inl, inr, refl, sym, ap, ◌∙◌, arith, true≢false}
+use Rattle.std.proofs.Common.{◌≡◌, ◌≤◌, ◌==◌, ◌&&◌, ℕ, Bool, true, false, cond, List, [], ◌∷◌, ◌++◌, length, map, replicate, nat_le, nat_lt, not, codes, Option, Some, None, is_some, option_and_then, unwrap_or, ◌||◌, ◌⊎◌, inl, inr, refl, sym, ap, ◌∙◌, arith, true≢false}
 use Rattle.std.specs.Prelude.{IfSome, is_none}
-use Rattle.std.specs.List.{AllByRecursion}
+use Rattle.std.specs.List.{AllByRecursion, list_any}
 use Rattle.std.proofs.lemmas.Bool.{ltb-false}
 use Rattle.std.proofs.lemmas.Bool.Decides.{nat_tests}
 use Rattle.base64.specs.GeneralPurpose.{IsBytes}
@@ -11,6 +11,7 @@ use Rattle.configuration_rows.specs.Values.{text_at, natural_at, hex_at, texts_a
 use Rattle.registered_url.specs.Rule.{url_of}
 use Rattle.configuration_rows.specs.declared.no.RegNo.{RegNo}
 use Rattle.configuration_rows.specs.declared.no.RegNo.TheVariants as no
+use Rattle.configuration_rows.specs.declared.row.Row.{Row}
 use Rattle.configuration_rows.specs.declared.row.Row.TheVariants as row
 use Rattle.configuration_rows.specs.declared.kind.Kind.TheVariants as kind
 use Rattle.configuration_rows.specs.declared.kind.TextRule.TheVariants as text
@@ -28,12 +29,13 @@ use Rattle.configuration_rows.specs.Rows as keys
 use Rattle.configuration_rows.specs.Rows.{rows_refusals}
 use Rattle.client_registry.specs.declared.records.User.{User}
 use Rattle.client_registry.specs.declared.records.Client.{Client}
-use Rattle.client_registry.specs.Records.{no_url, rounds_of, user_of, old_secret_of, seals_old_of, client_of_row, party_of, urls_of}
+use Rattle.client_registry.specs.declared.records.Party.{Party}
+use Rattle.client_registry.specs.Records.{no_url, rounds_of, user_of, old_secret_of, seals_old_of, client_of_row, party_of, party_settings_of, urls_of}
 use Rattle.client_registry.specs.Rules as rule
-use Rattle.client_registry.specs.Registered.{IsUser, IsSecret, IsClient, IsParty, is_url_or_none, is_prompt_or_none, is_age_or_none}
+use Rattle.client_registry.specs.Registered.{IsUser, IsSecret, IsClient, IsParty, KeepsPartySettings, is_url_or_none, is_prompt_or_none, is_age_or_none}
 use Rattle.client_registry.proofs.Guiltless.{front_nil, back_nil, unmet, either_false, each_nil, all_weaker, all_rows}
 use Rattle.client_registry.proofs.SpelledBytes.{hex_is_bytes, proof_is_bytes}
-use Rattle.client_registry.proofs.RowFacts.{Passing, Kept, KeptText, kept_text, KeptUrl, UrlAt, url_found, optional_text_kept, text_kept, hex_kept, number_kept, number_in, urls_kept, url_kept, url_there, optional_at}
+use Rattle.client_registry.proofs.RowFacts.{Passing, Kept, KeptText, kept_text, KeptUrl, UrlAt, url_found, optional_text_kept, text_kept, hex_kept, number_kept, number_in, urls_kept, url_kept, url_there, optional_at, workers_kept}
 
 second_true : (a b : Bool) → (a && b) ≡ true → b ≡ true
 second_true true b h = h
@@ -212,8 +214,8 @@ pub record PartyLists (clients : List Data) (i : ℕ) (d : Data) : Type 0 where
   pub prompt : keys.optional (row.Party i) d (codes "prompt") (kind.Text text.Prompt) ≡ []
   pub age : keys.optional (row.Party i) d (codes "max_age") (kind.Number 0 999999999) ≡ []
 
-pub party_lists : (clients : List Data) (i : ℕ) (d : Data) → keys.party_row clients i d ≡ [] → PartyLists clients i d
-party_lists clients i d h =
+pub party_lists : (v : Version) (host : Bool) (clients : List Data) (i : ℕ) (d : Data) → keys.party_row v host clients i d ≡ [] → PartyLists clients i d
+party_lists v host clients i d h =
     let r = row.Party i in
     let a : List RegNo = keys.required r d (codes "name") (kind.Text (text.Name PartyName 1 16)) in
     let b : List RegNo = keys.required r d (codes "client") (kind.Text text.Any) in
@@ -226,7 +228,7 @@ party_lists clients i d h =
     let m : List RegNo = keys.optional r d (codes "prompt") (kind.Text text.Prompt) in
     let n : List RegNo = keys.optional r d (codes "max_age") (kind.Number 0 999999999) in
     let settings : List RegNo = keys.party_settings r d in
-    let rest : ((((a ++ b) ++ c) ++ e) ++ f) ++ ((((t ++ l) ++ s) ++ m) ++ n) ≡ [] = front_nil (((((a ++ b) ++ c) ++ e) ++ f) ++ ((((t ++ l) ++ s) ++ m) ++ n)) settings h in
+    let rest : ((((a ++ b) ++ c) ++ e) ++ f) ++ ((((t ++ l) ++ s) ++ m) ++ n) ≡ [] = front_nil (((((a ++ b) ++ c) ++ e) ++ f) ++ ((((t ++ l) ++ s) ++ m) ++ n)) settings (front_nil ((((((a ++ b) ++ c) ++ e) ++ f) ++ ((((t ++ l) ++ s) ++ m) ++ n)) ++ settings) (keys.party_keys v host r d) h) in
     let names : (((a ++ b) ++ c) ++ e) ++ f ≡ [] = front_nil ((((a ++ b) ++ c) ++ e) ++ f) ((((t ++ l) ++ s) ++ m) ++ n) rest in
     let requests : (((t ++ l) ++ s) ++ m) ++ n ≡ [] = back_nil ((((a ++ b) ++ c) ++ e) ++ f) ((((t ++ l) ++ s) ++ m) ++ n) rest in
     let abce : ((a ++ b) ++ c) ++ e ≡ [] = front_nil (((a ++ b) ++ c) ++ e) f names in
@@ -257,11 +259,22 @@ age_at o (inr k) =
     let p : Passing (is_within 0 999999999) (as_natural k.value) = number_in 0 999999999 k.value k.kept in
     ap (λ q. is_age_or_none (option_and_then as_natural q)) k.there ∙ ap is_age_or_none p.there ∙ p.passed
 
-party_row : (known : List Client) (clients : List Data) (i : ℕ) (d : Data) → keys.party_row clients i d ≡ [] → IsParty (party_of known d)
+-- the keys of the second version
+abbrev party_front : List Data → ℕ → Data → List RegNo
+party_front clients i d = keys.party_names clients (row.Party i) d ++ keys.party_request clients (row.Party i) d ++ keys.party_settings (row.Party i) d
+
+party_keys_kept : (v : Version) (host : Bool) (clients : List Data) (i : ℕ) (d : Data) → keys.party_row v host clients i d ≡ [] → keys.party_keys v host (row.Party i) d ≡ []
+party_keys_kept v host clients i d h = back_nil (party_front clients i d) (keys.party_keys v host (row.Party i) d) h
+
+party_settings_kept : (v : Version) (host : Bool) (r : Row) (d : Data) → keys.party_keys v host r d ≡ [] → KeepsPartySettings (party_settings_of v d)
+party_settings_kept version.First host r d h = record { workers = refl }
+party_settings_kept version.Second host r d h = record { workers = workers_kept r d (back_nil (keys.https_rule host r d) (keys.workers_key r d) h) }
+
+party_row : (v : Version) (host : Bool) (known : List Client) (clients : List Data) (i : ℕ) (d : Data) → keys.party_row v host clients i d ≡ [] → IsParty (party_of v known d)
 unfolding party_of
-party_row known clients i d h =
+party_row v host known clients i d h =
     let r = row.Party i in
-    let l : PartyLists clients i d = party_lists clients i d h in
+    let l : PartyLists clients i d = party_lists v host clients i d h in
     let u : UrlAt (codes "redirect_uri") d = url_found r d (codes "redirect_uri") no_url l.redirect in
     let w : Directs (keys.client_of clients d) u.text u.url =
     directs_at (keys.client_of clients d) (text_at (codes "redirect_uri") d) (url_at (codes "redirect_uri") d) u.text u.url u.text_there u.url_there (unmet _ (no.BadUrl (path_text r (codes "redirect_uri"))) l.directs) in
@@ -274,6 +287,7 @@ party_row known clients i d h =
       scope = optional_text_kept r d (codes "scope") (codes "openid") text.Scope refl l.scope;
       prompt = prompt_at (text_at (codes "prompt") d) (optional_text_kept r d (codes "prompt") (codes "login") text.Prompt refl l.prompt);
       age = age_at (get (codes "max_age") d) (optional_at (path_text r (codes "max_age")) (kind.Number 0 999999999) (get (codes "max_age") d) l.age);
+      settings = party_settings_kept v host r d (party_keys_kept v host clients i d h);
     }
 
 -- ---- all rows
@@ -344,15 +358,50 @@ clients_keep v parties rows h s m =
     (records_keep rule.short_secret LongSecrets (map (client_of_row v) rows) long_secrets s)
     (records_keep rule.mixed_hosts (λ k. (k.pairwise && rule.has_two_hosts k.redirect_urls) ≡ false) (map (client_of_row v) rows) (λ i k e. unmet (k.pairwise && rule.has_two_hosts k.redirect_urls) (no.MixedHosts k.id) e) m))
 
-pub parties_keep : (known : List Client) (clients rows : List Data) → each (keys.party_row clients) rows ≡ [] → AllByRecursion IsParty (map (party_of known) rows)
-parties_keep known clients rows h = rows_keep (keys.party_row clients) (party_of known) IsParty rows (party_row known clients) h
+pub parties_keep : (v : Version) (host : Bool) (known : List Client) (clients rows : List Data) → each (keys.party_row v host clients) rows ≡ [] → AllByRecursion IsParty (map (party_of v known) rows)
+parties_keep v host known clients rows h = rows_keep (keys.party_row v host clients) (party_of v known) IsParty rows (party_row v host known clients) h
+
+-- ---- names of cookies that begin with `__Host-`
+
+-- a URL is https, if such names are set
+pub https_at : (host : Bool) (e : RegNo) (o : Option WebUrl) → note_if (host && keys.is_http o) e ≡ [] → is_some o ≡ true → (host && not (unwrap_or o no_url).secure) ≡ false
+https_at host e None h there = absurd (true≢false (sym there))
+https_at host e (Some u) h there = unmet (host && not u.secure) e h
+
+https_kept : (v : Version) (t : Data) (known : List Client) (clients : List Data) (i : ℕ) (d : Data) → keys.party_row v (keys.host_cookies v t) clients i d ≡ [] → (keys.host_cookies v t && not (party_of v known d).redirect_url.secure) ≡ false
+unfolding party_of
+https_kept version.First t known clients i d h = refl
+https_kept version.Second t known clients i d h =
+    let host : Bool = keys.host_cookies version.Second t in
+    let r = row.Party i in
+    let l : PartyLists clients i d = party_lists version.Second host clients i d h in
+    let u : UrlAt (codes "redirect_uri") d = url_found r d (codes "redirect_uri") no_url l.redirect in
+    https_at host (no.BadUrl (path_text r (codes "redirect_uri"))) (url_at (codes "redirect_uri") d)
+    (front_nil (keys.https_rule host r d) (keys.workers_key r d) (party_keys_kept version.Second host clients i d h))
+    (ap is_some u.url_there)
+
+neither : (a b : Bool) → a ≡ false → b ≡ false → (a || b) ≡ false
+neither true b p q = absurd (true≢false p)
+neither false b p q = q
+
+none_http : (host : Bool) (ps : List Party) → AllByRecursion (λ (p : Party). (host && not p.redirect_url.secure) ≡ false) ps → (host && list_any (λ (p : Party). not p.redirect_url.secure) ps) ≡ false
+none_http false ps h = refl
+none_http true [] h = refl
+none_http true (p ∷ ps) h = neither (not p.redirect_url.secure) (list_any (λ (q : Party). not q.redirect_url.secure) ps) h.0 (none_http true ps h.1)
+
+pub parties_are_https : (v : Version) (t : Data) (known : List Client) (clients rows : List Data) → each (keys.party_row v (keys.host_cookies v t) clients) rows ≡ []
+    → (keys.host_cookies v t && list_any (λ (p : Party). not p.redirect_url.secure) (map (party_of v known) rows)) ≡ false
+parties_are_https v t known clients rows h =
+    let host : Bool = keys.host_cookies v t in
+    none_http host (map (party_of v known) rows)
+    (rows_keep (keys.party_row v host clients) (party_of v known) (λ (p : Party). (host && not p.redirect_url.secure) ≡ false) rows (https_kept v t known clients) h)
 
 -- what the rows say, where nothing is noted of them
 pub record RowsKeep (root : Data) : Type 0 where
   pub provider : keys.provider_row (version_in root) (table_at (codes "provider") root) ≡ []
   pub users : each keys.user_row (rows_at (codes "user") root) ≡ []
   pub clients : each (keys.client_row (version_in root) (rows_at (codes "party") root)) (rows_at (codes "client") root) ≡ []
-  pub parties : each (keys.party_row (rows_at (codes "client") root)) (rows_at (codes "party") root) ≡ []
+  pub parties : each (keys.party_row (version_in root) (keys.host_cookies_in root) (rows_at (codes "client") root)) (rows_at (codes "party") root) ≡ []
 
 pub rows_keep_rules : (root : Data) → rows_refusals root ≡ [] → RowsKeep root
 unfolding rows_refusals

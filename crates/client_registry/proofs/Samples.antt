@@ -36,7 +36,7 @@ use Rattle.client_registry.specs.declared.records.Provider.{Provider}
 use Rattle.client_registry.specs.declared.records.User.{User}
 use Rattle.client_registry.specs.declared.records.Client.{Client}
 use Rattle.client_registry.specs.declared.records.Party.{Party}
-use Rattle.client_registry.specs.Records.{without_slash, endpoint, provider_of, lasting_of, full_pages_of, provider_title, client_title, rounds_of, proof_of, user_of, types_of, client_of_row, client_place, client_number, party_of, users_of, clients_of, parties_of}
+use Rattle.client_registry.specs.Records.{without_slash, endpoint, provider_of, lasting_of, full_pages_of, provider_title, settings_of, usual_settings, party_settings_of, usual_party_settings, client_title, rounds_of, proof_of, user_of, types_of, client_of_row, client_place, client_number, party_of, users_of, clients_of, parties_of}
 use Rattle.client_registry.specs.Secrets.{secrets, sealing, has_secret, all_secrets}
 use Rattle.client_registry.specs.Rules.{is_again, user_twice, client_twice, party_twice, short_secret, user_size, mixed_hosts, unknown_client, has_two_hosts, sector_of, text_place, records_refusals, pairwise_subject, subject_of, clashes, subjects_refusals}
 use Rattle.client_registry.specs.Registered.{AreApart, NumbersAreApart, HasNoneOf, AreDisjoint, IsUser, HoldsClaims, AllHoldClaims, IsSecret, IsClient, IsParty, IsLogoutOf, FitsClient, IsSubject, IsIssuerUrl, AreSubjectsBy, IsRegistry}
@@ -204,7 +204,7 @@ seals-with_its_old_one = refl
 
 -- the party of this name, at a client and a path
 abbrev party : List ℕ → ℕ → List ℕ → Party
-party name number path = record { name = name; client = number; redirect = codes "https://a.b/cb"; listen = codes "a.b:80"; types = types_of_number (Some 0); scope = codes "openid"; prompt = None; max_age = None; userinfo = false; signed = false; redirect_url = record { secure = true; host = codes "a.b"; port = 443; path = path; query = None } }
+party name number path = record { name = name; client = number; redirect = codes "https://a.b/cb"; listen = codes "a.b:80"; types = types_of_number (Some 0); scope = codes "openid"; prompt = None; max_age = None; userinfo = false; signed = false; redirect_url = record { secure = true; host = codes "a.b"; port = 443; path = path; query = None }; settings = usual_party_settings }
 
 -- a URL at the shop's host
 abbrev at_shop : ℕ → List ℕ → WebUrl
@@ -547,7 +547,42 @@ client_title-its_id_by_default = refl
 client_title-ignored_in_version_1 : client_title First (table (member (codes "id") (string (codes "shop")) (member (codes "title") (string (codes "A <Shop>")) no_members))) ≡ codes "shop"
 client_title-ignored_in_version_1 = refl
 
-is_party-shop : IsParty (party_of (clients_of good) (party_row (codes "shop")))
+-- ---- names of cookies, and workers
+
+abbrev with_workers : ℕ → Data
+with_workers n = table (member (codes "workers") (integer (pos n)) no_members)
+
+cookies-of_a_host_in_version_2 : (settings_of Second (with_text (codes "cookies") (codes "host"))).host_cookies ≡ true
+cookies-of_a_host_in_version_2 = refl
+
+cookies-that_are_plain : (settings_of Second (with_text (codes "cookies") (codes "plain"))).host_cookies ≡ false
+cookies-that_are_plain = refl
+
+settings-that_are_usual : settings_of Second (table no_members) ≡ usual_settings
+settings-that_are_usual = refl
+
+settings-ignored_in_version_1 : settings_of First (table (member (codes "cookies") (string (codes "host")) (member (codes "workers") (integer (pos 64)) no_members))) ≡ usual_settings
+settings-ignored_in_version_1 = refl
+
+workers-said_in_version_2 : (settings_of Second (with_workers 64)).workers ≡ 64
+workers-said_in_version_2 = refl
+
+workers-of_a_party : (party_settings_of Second (with_workers 16)).workers ≡ 16
+workers-of_a_party = refl
+
+workers-of_a_party_in_version_1 : party_settings_of First (with_workers 16) ≡ usual_party_settings
+workers-of_a_party_in_version_1 = refl
+
+not_a_registry-with_65_workers : (c : Configuration) → IsRegistry (record c { settings = record usual_settings { workers = 65 } }) → ⊥
+not_a_registry-with_65_workers c h = true≢false (sym h.settings.workers)
+
+not_a_registry-with_names_of_a_host_over_http : (c : Configuration) → IsRegistry (record c { settings = record usual_settings { host_cookies = true }; secure = false }) → ⊥
+not_a_registry-with_names_of_a_host_over_http c h = true≢false h.settings.issuer_https
+
+not_a_party-with_3_workers : IsParty (record (party (codes "shop") 0 (codes "/cb")) { settings = record usual_party_settings { workers = 3 } }) → ⊥
+not_a_party-with_3_workers h = true≢false (sym h.settings.workers)
+
+is_party-shop : IsParty (party_of (version_in good) (clients_of good) (party_row (codes "shop")))
 unfolding configuration_of
 is_party-shop = good_registry.party_rules.0
 
@@ -608,7 +643,7 @@ not_a_registry-whose_flag_is_a_word h =
     (user_holds (codes "{\"email_verified\":\"x\"}") h)
 
 abbrev twins : Configuration
-twins = record { provider = provider_of []; prefix = []; listen = []; secure = true; users = alice ∷ alice ∷ []; clients = shop ∷ []; parties = []; subjects = (codes "s" ∷ codes "t" ∷ []) ∷ []; lasting = false; full_pages = false; title = [] }
+twins = record { provider = provider_of []; prefix = []; listen = []; secure = true; users = alice ∷ alice ∷ []; clients = shop ∷ []; parties = []; subjects = (codes "s" ∷ codes "t" ∷ []) ∷ []; lasting = false; full_pages = false; title = []; settings = usual_settings }
 
 not_a_registry-of_one_id_twice : IsRegistry twins → ⊥
 not_a_registry-of_one_id_twice h = true≢false h.user_ids.0
@@ -759,7 +794,7 @@ abbrev short_text : List ℕ
 short_text = codes "version = 1\n[provider]\nissuer = \"https://a.b\"\nlisten = \"a.b:443\"\nsalt = \"00112233445566778899aabbccddeeff\"\n"
 
 abbrev nobody : Configuration
-nobody = record { provider = provider_of (codes "https://a.b"); prefix = []; listen = codes "a.b:443"; secure = true; users = []; clients = []; parties = []; subjects = []; lasting = false; full_pages = false; title = codes "a.b" }
+nobody = record { provider = provider_of (codes "https://a.b"); prefix = []; listen = codes "a.b:443"; secure = true; users = []; clients = []; parties = []; subjects = []; lasting = false; full_pages = false; title = codes "a.b"; settings = usual_settings }
 
 document-of_one_key : document_in (codes "a = 1") ≡ Some (table (member (codes "a") (integer (pos 1)) no_members))
 unfolding document_in toml_on_literals is_utf8 chars

@@ -4,7 +4,7 @@ use Rattle.std.specs.Prelude.{ℕ, Bool, false, nat_lt, List, [], length, Option
 use Rattle.client_registry.specs.declared.records.User.{User}
 use Rattle.client_registry.specs.declared.records.Client.{Client}
 use Rattle.client_registry.specs.declared.records.Party.{Party}
-use Rattle.client_registry.specs.Records.{no_url}
+use Rattle.client_registry.specs.Records.{no_url, usual_party_settings}
 use Rattle.client_registry.specs.Secrets.{sealing}
 use Rattle.oidc_words.specs.Types.{types_of_number}
 use Rattle.client_registry.specs.Configuration.{Configuration}
@@ -88,6 +88,7 @@ no_party = record {
   userinfo = false;
   signed = false;
   redirect_url = no_url;
+  settings = usual_party_settings;
 }
 
 abbrev pub party_row : Configuration → ℕ → Party

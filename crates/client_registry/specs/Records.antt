@@ -13,6 +13,8 @@ use Rattle.client_registry.specs.declared.records.Provider.{Provider}
 use Rattle.client_registry.specs.declared.records.User.{User}
 use Rattle.client_registry.specs.declared.records.Client.{Client}
 use Rattle.client_registry.specs.declared.records.Party.{Party}
+use Rattle.client_registry.specs.declared.records.Settings.{Settings}
+use Rattle.client_registry.specs.declared.records.PartySettings.{PartySettings}
 use Rattle.configuration_rows.specs.Values.{text_at, text_or, natural_at, flag_at, hex_at, texts_at, url_at, rows_at}
 use Rattle.configuration_rows.specs.Claims.{claims_in}
 use Rattle.oidc_words.specs.Paths.{authorize_path, token_path, userinfo_path}
@@ -21,7 +23,7 @@ use Rattle.oidc_words.specs.Types.{code_word, types_of_number, type_number}
 use Rattle.configuration_rows.specs.declared.version.Version.{Version}
 use Rattle.configuration_rows.specs.declared.version.Version.TheVariants.{First, Second}
 use Rattle.configuration_rows.specs.Versions.{version_in}
-use Rattle.configuration_rows.specs.Rows.{seals_old, response_texts, has_type}
+use Rattle.configuration_rows.specs.Rows.{seals_old, response_texts, has_type, host_cookies}
 
 -- ---- the provider
 
@@ -65,6 +67,30 @@ url_or_none key d = unwrap_or (url_at key d) no_url
 abbrev pub provider_title : Version → Data → List ℕ
 provider_title First d = (url_or_none (codes "issuer") d).host
 provider_title Second d = text_or (codes "title") (url_or_none (codes "issuer") d).host d
+
+-- how many requests a server serves at the same time; 4 if its row gives no number, and in the first version
+abbrev pub workers_in : Option ℕ → ℕ
+workers_in None = 4
+workers_in (Some n) = if nat_le n 64 then n else 4
+
+abbrev pub workers_of : Version → Data → ℕ
+workers_of First d = 4
+workers_of Second d = workers_in (natural_at (codes "workers") d)
+
+-- the settings of a configuration
+abbrev pub settings_of : Version → Data → Settings
+settings_of v d = record { host_cookies = host_cookies v d; workers = workers_of v d }
+
+-- those of a configuration that gives none
+abbrev pub usual_settings : Settings
+usual_settings = record { host_cookies = false; workers = 4 }
+
+-- the settings of a party, and those of a party that gives none
+abbrev pub party_settings_of : Version → Data → PartySettings
+party_settings_of v d = record { workers = workers_of v d }
+
+abbrev pub usual_party_settings : PartySettings
+usual_party_settings = record { workers = 4 }
 
 -- ---- users
 
@@ -136,8 +162,8 @@ client_place id clients = position_from (λ (k : Client). bytes_eq k.id id) 0 cl
 abbrev pub client_number : List ℕ → List Client → ℕ
 client_number id clients = unwrap_or (client_place id clients) (length clients)
 
-unfoldable pub party_of : List Client → Data → Party
-party_of clients d = record {
+unfoldable pub party_of : Version → List Client → Data → Party
+party_of v clients d = record {
   name = text_or (codes "name") [] d;
   client = client_number (text_or (codes "client") [] d) clients;
   redirect = text_or (codes "redirect_uri") [] d;
@@ -149,6 +175,7 @@ party_of clients d = record {
   userinfo = flag_at (codes "userinfo") d;
   signed = flag_at (codes "signed") d;
   redirect_url = url_or_none (codes "redirect_uri") d;
+  settings = party_settings_of v d;
 }
 
 -- ---- all rows
@@ -160,4 +187,4 @@ abbrev pub clients_of : Data → List Client
 clients_of root = map (client_of_row (version_in root)) (rows_at (codes "client") root)
 
 abbrev pub parties_of : Data → List Party
-parties_of root = map (party_of (clients_of root)) (rows_at (codes "party") root)
+parties_of root = map (party_of (version_in root) (clients_of root)) (rows_at (codes "party") root)

@@ -1,6 +1,6 @@
 -- The invariant of every registry.
 use Rattle.std.specs.Prelude.{◌≡◌, ◌≤◌, ◌<◌, ℕ, ◌==◌, ◌&&◌, Bool, true, false, List, [], ◌∷◌, length, map, codes, Option, Some, None, is_some, option_and_then}
-use Rattle.std.specs.Prelude.{slice_get, IfSome, is_none}
+use Rattle.std.specs.Prelude.{slice_get, IfSome, is_none, not}
 use Rattle.std.specs.List.{AllByRecursion, list_any}
 use Rattle.std.specs.Str.{bytes_eq, IsAscii}
 use Rattle.base64.specs.GeneralPurpose.{IsBytes}
@@ -12,6 +12,7 @@ use Rattle.registered_url.specs.Rule.{url_of, is_same_server}
 use Rattle.client_registry.specs.declared.records.User.{User}
 use Rattle.client_registry.specs.declared.records.Client.{Client}
 use Rattle.client_registry.specs.declared.records.Party.{Party}
+use Rattle.client_registry.specs.declared.records.PartySettings.{PartySettings}
 use Rattle.configuration_rows.specs.declared.kind.Alphabet.TheVariants.{UserId, ClientId, PartyName, Visible}
 use Rattle.sso_base.specs.Texts.{has_text}
 use Rattle.configuration_rows.specs.Kinds.{is_name, is_within, are_urls}
@@ -108,6 +109,10 @@ abbrev pub is_age_or_none : Option ℕ → Bool
 is_age_or_none None = true
 is_age_or_none (Some n) = is_within 0 999999999 n
 
+-- the settings of a party are within their bounds
+pub record KeepsPartySettings (s : PartySettings) : Type 0 where
+  pub workers : is_within 4 64 s.workers ≡ true
+
 -- a party satisfies the rules of its row: the path of its redirect URI is none that it serves itself, its query has no name of
 -- a response parameter, and its scope has the word `openid`
 pub record IsParty (p : Party) : Type 0 where
@@ -119,6 +124,7 @@ pub record IsParty (p : Party) : Type 0 where
   pub scope : is_scope p.scope ≡ true
   pub prompt : is_prompt_or_none p.prompt ≡ true
   pub age : is_age_or_none p.max_age ≡ true
+  pub settings : KeepsPartySettings p.settings
 
 -- a logout URI is at the server of a party's redirect URI, and its path is not the party's own sign-out path
 pub record IsLogoutOf (p : Party) (u : WebUrl) : Type 0 where
@@ -155,6 +161,13 @@ pub record AreSubjectsBy (c : Configuration) (salt : List ℕ) : Type 0 where
   pub bytes : IsBytes salt
   pub made : c.subjects ≡ map (subjects_at salt c.users) c.clients
 
+-- the settings of a registry are within their bounds: the names of cookies begin with `__Host-` only if the issuer and the
+-- redirect URIs of the parties are https (RFC 6265bis, 4.1.3.2)
+pub record KeepsSettings (c : Configuration) : Type 0 where
+  pub issuer_https : (c.settings.host_cookies && not c.secure) ≡ false
+  pub parties_https : (c.settings.host_cookies && list_any (λ (p : Party). not p.redirect_url.secure) c.parties) ≡ false
+  pub workers : is_within 4 64 c.settings.workers ≡ true
+
 -- ---- the registry
 
 -- the sizes of a registry; what is distinct in it: names, secrets (old ones included), redirect URIs, the clients of the
@@ -187,3 +200,4 @@ pub record IsRegistry (c : Configuration) : Type 0 where
   pub user_rules : AllByRecursion IsUser c.users
   pub client_rules : AllByRecursion IsClient c.clients
   pub party_rules : AllByRecursion IsParty c.parties
+  pub settings : KeepsSettings c

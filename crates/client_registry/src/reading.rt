@@ -14,8 +14,8 @@ ghost use Rattle.client_registry.specs.Registered.{IsRegistry, AllHoldClaims};
 use crate::records::{Client, Party, User};
 use crate::registry::Registry;
 use crate::rows::{
-    clients_of, full_pages_of, lasting_of, parties_of, provider_of, provider_title, url_in,
-    users_of, without_slash,
+    clients_of, full_pages_of, lasting_of, parties_of, provider_of, provider_title, settings_of,
+    url_in, users_of, without_slash,
 };
 use crate::rules::judge_records;
 use crate::subjects::{Subjects, subjects_of};
@@ -78,7 +78,7 @@ fn rows_of(alloc: Global, version: Version, root: &Value) -> Result<Rows, NoMemo
 {
     let users = users_of(alloc, rows_at(root, "user"))?;
     let clients = clients_of(alloc, version, rows_at(root, "client"))?;
-    let parties = parties_of(alloc, &clients, rows_at(root, "party"))?;
+    let parties = parties_of(alloc, version, &clients, rows_at(root, "party"))?;
     Ok(Rows {
         users,
         clients,
@@ -146,6 +146,7 @@ fn registry_of(
         lasting: lasting_of(version, provider),
         full_pages: full_pages_of(version, provider),
         title,
+        settings: settings_of(version, provider),
     })
 }
 

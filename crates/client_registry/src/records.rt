@@ -69,6 +69,23 @@ pub struct Client {
     pub title: Text,
 }
 
+/// Settings of a whole configuration, keys of the second version.
+#[derive(Clone, Copy)]
+pub struct Settings {
+    /// Whether the names of cookies begin with `__Host-` (RFC 6265bis, 4.1.3.2). If so, the issuer and the redirect URIs of the
+    /// parties are https.
+    pub host_cookies: bool,
+    /// How many requests the provider serves at the same time, from 4 to 64.
+    pub workers: u32,
+}
+
+/// Settings of a party, keys of the second version.
+#[derive(Clone, Copy)]
+pub struct PartySettings {
+    /// How many requests the party serves at the same time, from 4 to 64.
+    pub workers: u32,
+}
+
 /// A relying party.
 #[derive(Drop)]
 pub struct Party {
@@ -94,6 +111,8 @@ pub struct Party {
     pub signed: bool,
     /// The stored parts of the redirect URI.
     pub redirect_url: WebUrl,
+    /// Its settings.
+    pub settings: PartySettings,
 }
 
 // A copy of the URL, if there is one.
@@ -189,6 +208,7 @@ impl Party {
             userinfo: self.userinfo,
             signed: self.signed,
             redirect_url: self.redirect_url.copy(alloc)?,
+            settings: self.settings,
         })
     }
 }

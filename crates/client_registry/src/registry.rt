@@ -8,7 +8,7 @@ ghost use Rattle.client_registry.specs.Records.{client_place};
 ghost use Rattle.client_registry.specs.Rules.{user_place, redirect_place, party_place};
 
 use crate::places::{party_place, redirect_place, user_place};
-use crate::records::{Client, Party, Provider, User};
+use crate::records::{Client, Party, Provider, Settings, User};
 use crate::rows::client_place;
 use crate::subjects::Subjects;
 use sso_base::{NoMemory, Text};
@@ -30,6 +30,7 @@ pub struct Registry {
     pub(crate) lasting: bool,
     pub(crate) full_pages: bool,
     pub(crate) title: Text,
+    pub(crate) settings: Settings,
 }
 
 impl Model for Registry {
@@ -50,6 +51,7 @@ impl Model for Registry {
       lasting = r.lasting;
       full_pages = r.full_pages;
       title = r.title;
+      settings = r.settings;
     } };
 
     ghost invariant = { λ r. IsRegistry (record {
@@ -64,6 +66,7 @@ impl Model for Registry {
       lasting = r.lasting;
       full_pages = r.full_pages;
       title = r.title;
+      settings = r.settings;
     }) };
 }
 
@@ -116,6 +119,23 @@ impl Registry {
         ensures { result.now ≡ self.now.title }
     {
         &self.title
+    }
+
+    /// Whether the names of cookies begin with `__Host-` (RFC 6265bis, 4.1.3.2). If so, the issuer and the redirect URIs of the
+    /// parties are https.
+    pub fn host_cookies(&self) -> bool
+        ensures names { result ≡ self.now.settings.host_cookies }
+        ensures registry { IsRegistry self.now }
+    {
+        self.settings.host_cookies
+    }
+
+    /// How many requests the provider serves at the same time, from 4 to 64.
+    pub fn workers(&self) -> u32
+        ensures count { result ≡ self.now.settings.workers }
+        ensures registry { IsRegistry self.now }
+    {
+        self.settings.workers
     }
 
     /// How many users there are, at most 512.
@@ -224,6 +244,7 @@ impl Registry {
             lasting: self.lasting,
             full_pages: self.full_pages,
             title: self.title.copy(alloc)?,
+            settings: self.settings,
         })
     }
 }

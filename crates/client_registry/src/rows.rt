@@ -6,10 +6,11 @@ ghost use Rattle.claim_set.specs.Fitting.{ClaimsFit};
 ghost use Rattle.client_registry.specs.Registered.{HoldsClaims, AllHoldClaims};
 ghost use Rattle.client_registry.specs.Records as spec;
 
-use crate::records::{Client, Party, Provider, User};
+use crate::records::{Client, Party, PartySettings, Provider, Settings, User};
 use claim_set::{ClaimSet, write_claims};
 use configuration_rows::claims::claims_of;
 use configuration_rows::party_rules::{has_type, response_texts};
+use configuration_rows::server_keys::host_cookies;
 use configuration_rows::values::{
     flag_at, hex_at, natural_at, text_at, text_or, texts_at, url_at, url_of,
 };
@@ -215,6 +216,43 @@ pub(crate) fn provider_title(
     }
 }
 
+// The number of workers: 4 if none is given, or too great a one, which is rejected.
+fn workers_in(number: Option<u64>) -> u32
+    ensures { result ≡ spec.workers_in number }
+{
+    match number {
+        Some(number) if number <= 64 => number as u32,
+        _ => 4,
+    }
+}
+
+// How many workers the row gives, in the second version.
+fn workers_of(version: Version, row: &Value) -> u32
+    ensures { result ≡ spec.workers_of version (view row.now) }
+{
+    match version {
+        Version::First => 4,
+        Version::Second => workers_in(natural_at(row, "workers")),
+    }
+}
+
+pub(crate) fn settings_of(version: Version, provider: &Value) -> Settings
+    ensures { result ≡ spec.settings_of version (view provider.now) }
+{
+    Settings {
+        host_cookies: host_cookies(version, provider),
+        workers: workers_of(version, provider),
+    }
+}
+
+fn party_settings_of(version: Version, row: &Value) -> PartySettings
+    ensures { result ≡ spec.party_settings_of version (view row.now) }
+{
+    PartySettings {
+        workers: workers_of(version, row),
+    }
+}
+
 // The old secret of a client, in the second version.
 fn old_secret_of(alloc: Global, version: Version, row: &Value) -> Result<Option<Text>, NoMemory>
     ensures { IfOk result (λ o. o ≡ spec.old_secret_of version (view row.now)) }
@@ -292,9 +330,14 @@ fn client_number(clients: &[Client], id: &[u8]) -> u32
 }
 
 #[tactic(auto, unfolding(crate::specs::Records::party_of))]
-fn party_of(alloc: Global, clients: &[Client], row: &Value) -> Result<Party, NoMemory>
+fn party_of(
+    alloc: Global,
+    version: Version,
+    clients: &[Client],
+    row: &Value,
+) -> Result<Party, NoMemory>
     requires { length clients.now < 2 ^ 32 }
-    ensures { IfOk result (λ p. p ≡ spec.party_of clients.now (view row.now)) }
+    ensures { IfOk result (λ p. p ≡ spec.party_of version clients.now (view row.now)) }
 {
     let number = number_of_type(text_or(row, "response_type", "code"));
     Ok(Party {
@@ -309,6 +352,7 @@ fn party_of(alloc: Global, clients: &[Client], row: &Value) -> Result<Party, NoM
         userinfo: flag_at(row, "userinfo"),
         signed: flag_at(row, "signed"),
         redirect_url: url_in(alloc, row, "redirect_uri")?,
+        settings: party_settings_of(version, row),
     })
 }
 
@@ -341,17 +385,18 @@ pub(crate) fn clients_of(
 // The parties. If there were 2^32 clients, which no memory holds, `NoMemory` would be returned.
 pub(crate) fn parties_of(
     alloc: Global,
+    version: Version,
     clients: &[Client],
     rows: &[Value],
 ) -> Result<Vec<Party>, NoMemory>
-    ensures { IfOk result (λ v. v.items ≡ map (spec.party_of clients.now) (map view rows.now)) }
+    ensures { IfOk result (λ v. v.items ≡ map (spec.party_of version clients.now) (map view rows.now)) }
 {
     let mut parties = Vec::new(alloc);
     if clients.len() > u32::MAX as usize {
         return Err(NoMemory);
     }
     for row in rows {
-        parties.push(party_of(alloc, clients, row)?)?;
+        parties.push(party_of(alloc, version, clients, row)?)?;
     }
     Ok(parties)
 }

@@ -1,5 +1,5 @@
 -- The numbers of refusals: those of rows are from 4 to 6.
-use Rattle.std.proofs.Common.{◌≤◌, ◌+◌, ℕ, Bool, true, false, not, List, [], ◌∷◌, ◌++◌, codes, Option, Some, None, is_some, arith}
+use Rattle.std.proofs.Common.{◌≤◌, ◌+◌, ℕ, Bool, true, false, not, ◌&&◌, List, [], ◌∷◌, ◌++◌, codes, Option, Some, None, is_some, arith}
 use Rattle.std.specs.List.{AllByRecursion}
 use Rattle.toml.specs.Data.{Data, get, as_array}
 use Rattle.configuration_rows.specs.declared.no.RegNo.{RegNo}
@@ -99,9 +99,30 @@ of_page_keys : (v : Version) (d : Data) → OfRow (keys.page_keys v d)
 of_page_keys version.First d = tt
 of_page_keys version.Second d = both _ _ (of_optional Provider d (codes "pages") (kind.Text text.Pages)) (of_optional Provider d (codes "title") (kind.Text text.Title))
 
+of_workers : (r : Row) (d : Data) → OfRow (keys.workers_key r d)
+of_workers r d = of_optional r d (codes "workers") (kind.Number 4 64)
+
+of_issuer_rule : (host : Bool) (d : Data) → OfRow (keys.issuer_rule host d)
+of_issuer_rule host d = note (host && keys.is_http (url_at (codes "issuer") d)) (no.WrongKind (path_text Provider (codes "cookies"))) (omega arith) (omega arith)
+
+of_https_rule : (host : Bool) (r : Row) (d : Data) → OfRow (keys.https_rule host r d)
+of_https_rule host r d = note (host && keys.is_http (url_at (codes "redirect_uri") d)) (no.BadUrl (path_text r (codes "redirect_uri"))) (omega arith) (omega arith)
+
+of_server_keys : (v : Version) (d : Data) → OfRow (keys.server_keys v d)
+of_server_keys version.First d = tt
+of_server_keys version.Second d =
+    both _ _
+    (both _ _ (of_optional Provider d (codes "cookies") (kind.Text text.Cookies)) (of_issuer_rule (keys.host_cookies version.Second d) d))
+    (of_workers Provider d)
+
+of_party_keys : (v : Version) (host : Bool) (r : Row) (d : Data) → OfRow (keys.party_keys v host r d)
+of_party_keys version.First host r d = tt
+of_party_keys version.Second host r d = both _ _ (of_https_rule host r d) (of_workers r d)
+
 of_provider : (v : Version) (d : Data) → OfRow (keys.provider_row v d)
 of_provider v d =
     both _ _
+    (both _ _
     (both _ _
     (both _ _
     (both _ _
@@ -109,7 +130,8 @@ of_provider v d =
     (of_required Provider d (codes "listen") (kind.Text (text.Name Visible 1 64))))
     (of_required Provider d (codes "salt") (kind.Text (text.Hex 16 64))))
     (of_history_key v d))
-    (of_page_keys v d)
+    (of_page_keys v d))
+    (of_server_keys v d)
 
 of_user : (i : ℕ) (d : Data) → OfRow (keys.user_row i d)
 of_user i d =
@@ -199,8 +221,11 @@ of_party_request clients r d =
 of_party_settings : (r : Row) (d : Data) → OfRow (keys.party_settings r d)
 of_party_settings r d = both _ _ (of_optional r d (codes "userinfo") kind.Flag) (of_optional r d (codes "signed") kind.Flag)
 
-of_party : (clients : List Data) (i : ℕ) (d : Data) → OfRow (keys.party_row clients i d)
-of_party clients i d = both _ _ (both _ _ (of_party_names clients (Party i) d) (of_party_request clients (Party i) d)) (of_party_settings (Party i) d)
+of_party : (v : Version) (host : Bool) (clients : List Data) (i : ℕ) (d : Data) → OfRow (keys.party_row v host clients i d)
+of_party v host clients i d =
+    both _ _
+    (both _ _ (both _ _ (of_party_names clients (Party i) d) (of_party_request clients (Party i) d)) (of_party_settings (Party i) d))
+    (of_party_keys v host (Party i) d)
 
 of_users : (root : Data) → OfRow (keys.users_rows root)
 of_users root = both _ _ (of_array_value (codes "user") (get (codes "user") root)) (each keys.user_row (rows_at (codes "user") root) of_user)
@@ -209,7 +234,10 @@ of_clients : (root : Data) → OfRow (keys.clients_rows root)
 of_clients root = both _ _ (of_array_value (codes "client") (get (codes "client") root)) (each (keys.client_row (version_in root) (rows_at (codes "party") root)) (rows_at (codes "client") root) (of_client (version_in root) (rows_at (codes "party") root)))
 
 of_parties : (root : Data) → OfRow (keys.parties_rows root)
-of_parties root = both _ _ (of_array_value (codes "party") (get (codes "party") root)) (each (keys.party_row (rows_at (codes "client") root)) (rows_at (codes "party") root) (of_party (rows_at (codes "client") root)))
+of_parties root =
+    both _ _ (of_array_value (codes "party") (get (codes "party") root))
+    (each (keys.party_row (version_in root) (keys.host_cookies_in root) (rows_at (codes "client") root)) (rows_at (codes "party") root)
+    (of_party (version_in root) (keys.host_cookies_in root) (rows_at (codes "client") root)))
 
 pub of_rows : (root : Data) → HaveNumbers 4 6 (rows_refusals root)
 unfolding rows_refusals

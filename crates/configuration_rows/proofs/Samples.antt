@@ -27,7 +27,7 @@ use Rattle.oidc_words.specs.Claims.{flag_claims, seconds_claims, is_claim_of, pr
 use Rattle.configuration_rows.specs.Kinds.{allows, is_within, is_name, breach}
 use Rattle.configuration_rows.specs.Versions.{version_of, version_in}
 use Rattle.oidc_words.specs.Types.{spellings}
-use Rattle.configuration_rows.specs.Rows.{required, optional, array_rule, uses, logout_rule, client_of, redirect_rule, response_texts, has_type, lacks_type, type_rule, seals_old, old_secret_keys, history_key, page_keys, title_key, user_row, client_row, party_row, rows_refusals}
+use Rattle.configuration_rows.specs.Rows.{required, optional, array_rule, uses, logout_rule, client_of, redirect_rule, response_texts, has_type, lacks_type, type_rule, seals_old, old_secret_keys, history_key, page_keys, title_key, server_keys, party_keys, user_row, client_row, party_row, rows_refusals}
 use Rattle.configuration_rows.proofs.Phases.{is_least}
 
 abbrev none : Option Breach
@@ -467,6 +467,61 @@ title-of_another_kind = refl
 title-is_ignored_in_version_1 : title_key First (Client 0) (one (codes "title") (integer (pos 1))) ≡ []
 title-is_ignored_in_version_1 = refl
 
+-- ---- names of cookies, and workers
+
+-- a provider of this issuer with these names of cookies
+abbrev with_cookies : List ℕ → List ℕ → Data
+with_cookies issuer cookies = table (member (codes "issuer") (string issuer) (member (codes "cookies") (string cookies) no_members))
+
+cookies-that_are_plain : server_keys Second (with_cookies (codes "http://a.b") (codes "plain")) ≡ []
+cookies-that_are_plain = refl
+
+cookies-of_a_host : server_keys Second (with_cookies (codes "https://a.b") (codes "host")) ≡ []
+unfolding url_on_literals parts_of
+cookies-of_a_host = refl
+
+cookies-of_a_host_over_http : server_keys Second (with_cookies (codes "http://a.b") (codes "host")) ≡ no.WrongKind (codes "provider.cookies") ∷ []
+unfolding url_on_literals parts_of
+cookies-of_a_host_over_http = refl
+
+cookies-may_be_absent : server_keys Second (table no_members) ≡ []
+cookies-may_be_absent = refl
+
+cookies-of_another_text : server_keys Second (with_cookies (codes "https://a.b") (codes "secure")) ≡ no.WrongKind (codes "provider.cookies") ∷ []
+cookies-of_another_text = refl
+
+cookies-of_another_kind : server_keys Second (one (codes "cookies") (boolean true)) ≡ no.WrongKind (codes "provider.cookies") ∷ []
+cookies-of_another_kind = refl
+
+workers-of_4 : server_keys Second (one (codes "workers") (integer (pos 4))) ≡ []
+workers-of_4 = refl
+
+workers-of_64 : party_keys Second false (Party 0) (one (codes "workers") (integer (pos 64))) ≡ []
+workers-of_64 = refl
+
+workers-of_3 : server_keys Second (one (codes "workers") (integer (pos 3))) ≡ no.WrongKind (codes "provider.workers") ∷ []
+workers-of_3 = refl
+
+workers-of_65 : party_keys Second false (Party 0) (one (codes "workers") (integer (pos 65))) ≡ no.WrongKind (path_text (Party 0) (codes "workers")) ∷ []
+workers-of_65 = refl
+
+workers-of_another_kind : server_keys Second (one (codes "workers") (string (codes "4"))) ≡ no.WrongKind (codes "provider.workers") ∷ []
+workers-of_another_kind = refl
+
+workers-are_ignored_in_version_1 : server_keys First (table (member (codes "cookies") (boolean true) (member (codes "workers") (boolean true) no_members))) ≡ []
+workers-are_ignored_in_version_1 = refl
+
+workers-of_a_party_are_ignored_in_version_1 : party_keys First true (Party 0) (table (member (codes "redirect_uri") (string (codes "http://a.b/cb")) (member (codes "workers") (boolean true) no_members))) ≡ []
+workers-of_a_party_are_ignored_in_version_1 = refl
+
+cookies-at_a_party_over_http : party_keys Second true (Party 0) (one (codes "redirect_uri") (string (codes "http://a.b/cb"))) ≡ no.BadUrl (path_text (Party 0) (codes "redirect_uri")) ∷ []
+unfolding url_on_literals parts_of
+cookies-at_a_party_over_http = refl
+
+cookies-at_a_party_over_https : party_keys Second true (Party 0) (one (codes "redirect_uri") (string (codes "https://a.b/cb"))) ≡ []
+unfolding url_on_literals parts_of
+cookies-at_a_party_over_https = refl
+
 -- ---- rules over several rows
 
 abbrev shop_types : Data
@@ -574,6 +629,6 @@ client-of_nothing : client_row First [] 1 (table no_members) ≡ no.Missing (cod
 unfolding digits
 client-of_nothing = refl
 
-party-of_nothing : party_row [] 2 (table no_members) ≡ no.Missing (codes "party[2].name") ∷ no.Missing (codes "party[2].client") ∷ no.Missing (codes "party[2].redirect_uri") ∷ no.Missing (codes "party[2].listen") ∷ []
+party-of_nothing : party_row First false [] 2 (table no_members) ≡ no.Missing (codes "party[2].name") ∷ no.Missing (codes "party[2].client") ∷ no.Missing (codes "party[2].redirect_uri") ∷ no.Missing (codes "party[2].listen") ∷ []
 unfolding digits lacks_type
 party-of_nothing = refl

@@ -14,7 +14,7 @@ use Rattle.configuration_rows.specs.declared.kind.Kind.{Kind}
 use Rattle.configuration_rows.specs.declared.kind.Kind.TheVariants.{Text, Number, Flag, Issuer, Url, Urls, ResponseTypes, Claims}
 use Rattle.configuration_rows.specs.declared.kind.TextRule.{TextRule}
 use Rattle.configuration_rows.specs.declared.kind.TextRule.TheVariants.{Any, Name, Hex, ResponseType, Subject, Consent, Seals, History, Scope, Prompt}
-use Rattle.configuration_rows.specs.declared.kind.TextRule.TheVariants.{Pages, Title}
+use Rattle.configuration_rows.specs.declared.kind.TextRule.TheVariants.{Pages, Title, Cookies}
 use Rattle.configuration_rows.specs.declared.kind.Breach.{Breach}
 use Rattle.configuration_rows.specs.declared.kind.Breach.TheVariants.{WrongKind, BadUrl}
 use Rattle.configuration_rows.specs.Values.{as_natural, hex_bytes, as_texts}
@@ -90,6 +90,7 @@ text_keeps Seals t = has_text t (codes "new" ∷ codes "old" ∷ [])
 text_keeps History t = has_text t (codes "stored" ∷ codes "lasting" ∷ [])
 text_keeps Pages t = has_text t (codes "plain" ∷ codes "full" ∷ [])
 text_keeps Title t = is_within 1 80 (length t)
+text_keeps Cookies t = has_text t (codes "plain" ∷ codes "host" ∷ [])
 text_keeps Scope t = is_scope t
 text_keeps Prompt t = is_prompt t
 

@@ -1,5 +1,5 @@
--- The configuration: its keys, each with its rule, row by row, in the order of its table. The second version has six more keys:
--- three for a client and three for the provider.
+-- The configuration: its keys, each with its rule, row by row, in the order of its table. The second version has nine more keys:
+-- three for a client, five for the provider and one for a party.
 use Rattle.std.specs.Prelude.{ℕ, ◌==◌, Bool, true, false, not, ◌&&◌, ◌||◌, List, [], ◌∷◌, ◌++◌, codes, Option, Some, None, is_some, if◌then◌else◌}
 use Rattle.std.specs.List.{list_any}
 use Rattle.std.specs.Str.{bytes_eq}
@@ -13,7 +13,7 @@ use Rattle.configuration_rows.specs.declared.row.Row.{Row}
 use Rattle.configuration_rows.specs.declared.row.Row.TheVariants.{Provider, User, Client, Party}
 use Rattle.configuration_rows.specs.declared.kind.Alphabet.TheVariants.{UserId, ClientId, PartyName, Visible}
 use Rattle.configuration_rows.specs.declared.kind.TextRule.TheVariants.{Any, Name, Hex, ResponseType, Subject, Consent, Seals, History, Scope, Prompt}
-use Rattle.configuration_rows.specs.declared.kind.TextRule.TheVariants.{Pages, Title}
+use Rattle.configuration_rows.specs.declared.kind.TextRule.TheVariants.{Pages, Title, Cookies}
 use Rattle.configuration_rows.specs.declared.kind.Kind.{Kind}
 use Rattle.configuration_rows.specs.declared.kind.Kind.TheVariants.{Text, Number, Flag, Issuer, Url, Urls, ResponseTypes, Claims}
 use Rattle.configuration_rows.specs.declared.kind.Breach.{Breach}
@@ -158,6 +158,33 @@ abbrev pub page_keys : Version → Data → List RegNo
 page_keys version.First d = []
 page_keys version.Second d = optional Provider d (codes "pages") (Text Pages) ++ optional Provider d (codes "title") (Text Title)
 
+-- the names of cookies begin with `__Host-` (RFC 6265bis, 4.1.3.2), in the second version
+abbrev pub host_cookies : Version → Data → Bool
+host_cookies version.First d = false
+host_cookies version.Second d = bytes_eq (text_or (codes "cookies") [] d) (codes "host")
+
+-- a user agent ignores cookies with such names at a URL that is not https (RFC 6265bis, 4.1.3.2)
+abbrev pub is_http : Option WebUrl → Bool
+is_http u = passes (λ (v : WebUrl). not v.secure) u
+
+-- the issuer is https if names begin with `__Host-`
+abbrev pub issuer_rule : Bool → Data → List RegNo
+issuer_rule host d = note_if (host && is_http (url_at (codes "issuer") d)) (no.WrongKind (path_text Provider (codes "cookies")))
+
+-- the redirect URI of a party is https if names begin with `__Host-`
+abbrev pub https_rule : Bool → Row → Data → List RegNo
+https_rule host row d = note_if (host && is_http (url_at (codes "redirect_uri") d)) (no.BadUrl (path_text row (codes "redirect_uri")))
+
+-- how many workers serve requests at the same time
+abbrev pub workers_key : Row → Data → List RegNo
+workers_key row d = optional row d (codes "workers") (Number 4 64)
+
+-- the names of cookies, and the workers of the provider: keys of the second version
+abbrev pub server_keys : Version → Data → List RegNo
+server_keys version.First d = []
+server_keys version.Second d =
+    optional Provider d (codes "cookies") (Text Cookies) ++ issuer_rule (host_cookies version.Second d) d ++ workers_key Provider d
+
 abbrev pub provider_row : Version → Data → List RegNo
 provider_row v d =
     required Provider d (codes "issuer") Issuer
@@ -165,6 +192,7 @@ provider_row v d =
     ++ required Provider d (codes "salt") (Text (Hex 16 64))
     ++ history_key v d
     ++ page_keys v d
+    ++ server_keys v d
 
 abbrev pub user_row : ℕ → Data → List RegNo
 user_row i d =
@@ -233,8 +261,14 @@ party_settings row d =
     optional row d (codes "userinfo") Flag
     ++ optional row d (codes "signed") Flag
 
-abbrev pub party_row : List Data → ℕ → Data → List RegNo
-party_row clients i d = party_names clients (Party i) d ++ party_request clients (Party i) d ++ party_settings (Party i) d
+-- what a party's row has in the second version; `host` is true if the names of cookies begin with `__Host-`
+abbrev pub party_keys : Version → Bool → Row → Data → List RegNo
+party_keys version.First host row d = []
+party_keys version.Second host row d = https_rule host row d ++ workers_key row d
+
+abbrev pub party_row : Version → Bool → List Data → ℕ → Data → List RegNo
+party_row v host clients i d =
+    party_names clients (Party i) d ++ party_request clients (Party i) d ++ party_settings (Party i) d ++ party_keys v host (Party i) d
 
 abbrev pub array_value : List ℕ → Option Data → List RegNo
 array_value key None = []
@@ -250,8 +284,14 @@ users_rows root = array_rule (codes "user") root ++ each user_row (rows_at (code
 abbrev pub clients_rows : Data → List RegNo
 clients_rows root = array_rule (codes "client") root ++ each (client_row (version_in root) (rows_at (codes "party") root)) (rows_at (codes "client") root)
 
+-- the names of the cookies of a configuration begin with `__Host-`
+abbrev pub host_cookies_in : Data → Bool
+host_cookies_in root = host_cookies (version_in root) (table_at (codes "provider") root)
+
 abbrev pub parties_rows : Data → List RegNo
-parties_rows root = array_rule (codes "party") root ++ each (party_row (rows_at (codes "client") root)) (rows_at (codes "party") root)
+parties_rows root =
+    array_rule (codes "party") root
+    ++ each (party_row (version_in root) (host_cookies_in root) (rows_at (codes "client") root)) (rows_at (codes "party") root)
 
 -- the errors of the rows of a configuration, in order: missing keys, values of another kind or that violate their rules, and
 -- URLs that violate theirs

@@ -64,6 +64,8 @@ pub enum TextRule {
     Pages,
     /// From 1 to 80 bytes.
     Title,
+    /// `plain` or `host`.
+    Cookies,
     /// Words of `scope`, with `openid` among them.
     Scope,
     /// Words of `prompt` (OpenID Connect Core 1.0, 3.1.2.1).
@@ -171,6 +173,7 @@ fn keeps(alloc: Global, rule: TextRule, text: &str) -> Result<bool, NoMemory>
         TextRule::Seals => Ok(is_one_of(text, &["new", "old"])),
         TextRule::History => Ok(is_one_of(text, &["stored", "lasting"])),
         TextRule::Pages => Ok(is_one_of(text, &["plain", "full"])),
+        TextRule::Cookies => Ok(is_one_of(text, &["plain", "host"])),
         TextRule::Title => Ok(is_between(1, 80, text.len())),
         TextRule::Scope => is_scope(alloc, text),
         TextRule::Prompt => is_prompt(alloc, text),

@@ -1,7 +1,7 @@
 //! The rows of a configuration file: its keys, each with its rule, and the errors of the rows.
 //!
 //! A configuration is TOML. Its keys are in one module, row by row, in the order in which errors of one kind are reported. The
-//! second version has six more keys: three for a client and three for the provider.
+//! second version has nine more keys: three for a client, five for the provider and one for a party.
 //!
 //! | Module | What it has |
 //! |---|---|
@@ -14,6 +14,7 @@
 //! | `kind` | the kinds of values, and how a value violates the rule of its key |
 //! | `keys` | the errors of a row at one key |
 //! | `logout_rule`, `party_rules` | rules about a client and the parties that use it |
+//! | `server_keys` | the names of cookies, and the workers of servers |
 //! | `law` | the error that is reported, stated as a law |
 //! | `rows` | the keys of both versions |
 #![tactic(auto)]
@@ -28,6 +29,7 @@ pub mod party_rules;
 pub mod refusals;
 pub mod row;
 pub mod rows;
+pub mod server_keys;
 pub mod values;
 pub mod version;
 

@@ -1,5 +1,5 @@
-// The keys of the configuration, each with its rule, row by row, in the order of its table. The second version has six more
-// keys: three for a client and three for the provider.
+// The keys of the configuration, each with its rule, row by row, in the order of its table. The second version has nine more
+// keys: three for a client, five for the provider and one for a party.
 
 ghost use Rattle.std.specs.Prelude.{◌≡◌, ◌++◌, map, OnOk};
 ghost use Rattle.toml.specs.Data.{table, no_members};
@@ -16,6 +16,7 @@ use crate::logout_rule::logout_rule;
 use crate::party_rules::{redirect_rule, type_rule};
 use crate::refusals::Refusals;
 use crate::row::Row;
+use crate::server_keys::{host_cookies, party_keys, server_keys};
 use crate::values::{rows_at, table_at, text_or};
 use crate::version::Version;
 use sso_base::NoMemory;
@@ -83,7 +84,8 @@ fn provider_row(refusals: &mut Refusals, version: Version, values: &Value) -> Re
     )?;
     required(refusals, row, values, "salt", hex_of(16, 64))?;
     history_key(refusals, version, values)?;
-    page_keys(refusals, version, values)
+    page_keys(refusals, version, values)?;
+    server_keys(refusals, version, values)
 }
 
 fn user_row(refusals: &mut Refusals, place: usize, values: &Value) -> Result<(), NoMemory>
@@ -293,15 +295,18 @@ fn party_settings(refusals: &mut Refusals, row: Row, values: &Value) -> Result<(
 
 fn party_row(
     refusals: &mut Refusals,
+    version: Version,
+    host: bool,
     clients: &[Value],
     place: usize,
     values: &Value,
 ) -> Result<(), NoMemory>
-    ensures { OnOk result (refusals.new ≡ refusals.old ++ spec.party_row (map view clients.now) place (view values.now)) }
+    ensures { OnOk result (refusals.new ≡ refusals.old ++ spec.party_row version host (map view clients.now) place (view values.now)) }
 {
     party_names(refusals, clients, Row::Party(place), values)?;
     party_request(refusals, clients, Row::Party(place), values)?;
-    party_settings(refusals, Row::Party(place), values)
+    party_settings(refusals, Row::Party(place), values)?;
+    party_keys(refusals, version, host, Row::Party(place), values)
 }
 
 fn user_rows(refusals: &mut Refusals, users: &[Value]) -> Result<(), NoMemory>
@@ -327,11 +332,17 @@ fn client_rows(
     Ok(())
 }
 
-fn party_rows(refusals: &mut Refusals, clients: &[Value], parties: &[Value]) -> Result<(), NoMemory>
-    ensures { OnOk result (refusals.new ≡ refusals.old ++ each (spec.party_row (map view clients.now)) (map view parties.now)) }
+fn party_rows(
+    refusals: &mut Refusals,
+    version: Version,
+    host: bool,
+    clients: &[Value],
+    parties: &[Value],
+) -> Result<(), NoMemory>
+    ensures { OnOk result (refusals.new ≡ refusals.old ++ each (spec.party_row version host (map view clients.now)) (map view parties.now)) }
 {
     for (place, party) in parties.iter().enumerate() {
-        party_row(refusals, clients, place, party)?;
+        party_row(refusals, version, host, clients, place, party)?;
     }
     Ok(())
 }
@@ -357,11 +368,24 @@ fn clients(refusals: &mut Refusals, version: Version, root: &Value) -> Result<()
     )
 }
 
-fn parties(refusals: &mut Refusals, root: &Value) -> Result<(), NoMemory>
+fn parties(
+    refusals: &mut Refusals,
+    version: Version,
+    host: bool,
+    root: &Value,
+) -> Result<(), NoMemory>
+    requires version { version ≡ version_in (view root.now) }
+    requires host { host ≡ spec.host_cookies_in (view root.now) }
     ensures { OnOk result (refusals.new ≡ refusals.old ++ spec.parties_rows (view root.now)) }
 {
     array(refusals, root, "party")?;
-    party_rows(refusals, rows_at(root, "client"), rows_at(root, "party"))
+    party_rows(
+        refusals,
+        version,
+        host,
+        rows_at(root, "client"),
+        rows_at(root, "party"),
+    )
 }
 
 /// Appends the errors of the rows of a configuration of this version, in order. `empty` is an empty table.
@@ -376,8 +400,9 @@ pub fn judge_rows(
     requires empty { view empty.now ≡ table no_members }
     ensures { OnOk result (refusals.new ≡ refusals.old ++ spec.rows_refusals (view root.now)) }
 {
-    provider_row(refusals, version, table_at(root, "provider", empty))?;
+    let provider = table_at(root, "provider", empty);
+    provider_row(refusals, version, provider)?;
     users(refusals, root)?;
     clients(refusals, version, root)?;
-    parties(refusals, root)
+    parties(refusals, version, host_cookies(version, provider), root)
 }

@@ -7,13 +7,15 @@ ghost use Rattle.configuration_rows.specs.Versions as spec;
 use crate::values::natural_at;
 use toml::Value;
 
-/// A version of the configuration. The second has all keys of the first, and six more: `old_secret`, `seals` and `title` of a
-/// client, and `history`, `pages` and `title` of the provider. In the first version all six are ignored.
+/// A version of the configuration. The second has all keys of the first, and nine more: `old_secret`, `seals` and `title` of a
+/// client, `history`, `pages`, `title`, `cookies` and `workers` of the provider, and `workers` of a party. In the first version
+/// all nine are ignored.
 #[derive(Clone, Copy)]
 pub enum Version {
     /// The first.
     First,
-    /// The second: a client may have two secrets, the histories may last, and pages may be full and have titles.
+    /// The second: a client may have two secrets, the histories may last, pages may be full and have titles, the names of cookies
+    /// may begin with `__Host-`, and servers may have more workers.
     Second,
 }
 

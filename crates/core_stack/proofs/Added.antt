@@ -1,27 +1,22 @@
 -- What a step adds to the provider's history, from what it adds by the reply that the provider gave.
-use Rattle.std.proofs.Common.{◌≡◌, ℕ, ◌+◌, true, false, List, [], ◌∷◌, ◌++◌, length, Option, Some, None, slice_index_or, refl, ap, sym, ◌∙◌, subst, inl, inr, arith}
-use Rattle.std.proofs.lemmas.List.{append_cancel_left, length-append}
+use Rattle.std.proofs.Common.{◌≡◌, ℕ, ◌+◌, true, false, List, [], ◌∷◌, ◌++◌, length, Option, Some, None, refl, ap, sym, ◌∙◌, subst, inl, inr, arith}
+use Rattle.std.proofs.lemmas.List.{length-append}
 use Rattle.sso_base.specs.Words.{Word}
 use Rattle.op_exchange.specs.declared.ask.OpAsk.{OpAsk}
 use Rattle.op_exchange.specs.declared.reply.OpReply.{OpReply}
 use Rattle.op_answer.specs.Past.{OpPair}
 use Rattle.op_answer.proofs.KeptNames.{some_same}
 use Rattle.core_stack.specs.Stacks.{is_shown, provider_pair, AddsPair, AddsGiven, AddsAtMostOne}
+use Rattle.core_stack.specs.OpStack.{last_same}
 
 one_apart : (m n k : ℕ) → m ≡ n → n ≡ m + k → k ≡ 1 → ⊥
 one_apart m n k same apart one = omega (arith, same, apart, one)
 
 -- a list with one more element is another one
-no_more : {X : Type 0} (l : List X) (x : X) → l ≡ l ++ x ∷ [] → ⊥
+pub no_more : {X : Type 0} (l : List X) (x : X) → l ≡ l ++ x ∷ [] → ⊥
 no_more {X} l x same =
     let L : List X → ℕ = λ m. length m in
     one_apart (length l) (length (l ++ x ∷ [])) (length (x ∷ [])) (ap L same) (length-append l (x ∷ [])) refl
-
--- the last elements are the same
-last_same : {X : Type 0} (l : List X) (x y : X) → l ++ x ∷ [] ≡ l ++ y ∷ [] → x ≡ y
-last_same {X} l x y same =
-    let F : List X → X = λ m. slice_index_or m 0 x in
-    ap F (append_cancel_left l (x ∷ []) (y ∷ []) same)
 
 not_shown : (p q : OpPair) → q ≡ p → is_shown p.reply ≡ false → is_shown q.reply ≡ true → ⊥
 not_shown p q same hidden shown =

@@ -8,6 +8,8 @@ pub mod Stacking
 pub mod OnePair
 pub mod Same
 pub mod Added
+pub mod Provided
+pub mod NewWords
 pub mod Marked
 pub mod Rooms
 pub mod MarksHeld

@@ -33,7 +33,7 @@ use Rattle.op_answer.specs.Codes.{code_named, is_tokens, code_made_by, codes_iss
 use Rattle.op_answer.specs.Codes as codes_of
 use Rattle.op_answer.specs.Replies.{session_after}
 use Rattle.op_answer.specs.Answering.{op_answer}
-use Rattle.op_answer.specs.Legal.{IsLegalHistory}
+use Rattle.op_answer.specs.Legal.{IsLegalOp}
 use Rattle.op_answer.specs.Causes.{AnsweredCause}
 use Rattle.op_answer.proofs.Answers.{answers_have_a_cause}
 use Rattle.op_core.specs.Making.{wish_found, session_found}
@@ -71,13 +71,13 @@ live_named past at (Some w) row live =
     ap S (sym (row_has_name turn_name w (turns past) row (row_that_lives turn_life turn_begun at (row_of turn_name w (turns past)) row live)))
 
 -- the provider gave the reply that its history says
-pub answered_as : (c : Configuration) (before after : List OpPair) (at : ℕ) (fresh : List Word) (request : OpAsk) (r : OpReply) → after ≡ before ++ provider_pair at fresh request r ∷ [] → IsLegalHistory c after
+pub answered_as : (c : Configuration) (before after : List OpPair) (at : ℕ) (fresh : List Word) (request : OpAsk) (r : OpReply) → after ≡ before ++ provider_pair at fresh request r ∷ [] → IsLegalOp c (reverse after)
     → op_answer c (reverse before) (record { at = at; fresh = fresh; ask = request }) ≡ r
 answered_as c before after at fresh request r added legal =
     let q : OpPair = provider_pair at fresh request r in
     let V : List OpPair → OpPast = λ l. reverse l in
     let L : OpPast → Type 0 = λ o. IsLegalBy IsOpAsk (op_answer c) o in
-    sym (legal_reply IsOpAsk (op_answer c) [] (reverse before) q (subst L (ap V added ∙ past_more before q) legal.past))
+    sym (legal_reply IsOpAsk (op_answer c) [] (reverse before) q (subst L (ap V added ∙ past_more before q) legal))
 
 -- ---- one row that is kept
 
@@ -495,7 +495,7 @@ module _ {A R M : Type 0} (plain : A → Option OpAsk) (given : R → Option OpR
       subst T (sym (ap V more.added ∙ past_more before more.pair)) (codes_hidden past p (reverse before) more.pair gave more.hidden codes)
 
   codes_some : (c : Configuration) (past : List (Pair A R)) (p : Pair A R) (before after : List OpPair) (r : OpReply) → given p.reply ≡ Some r
-      → AddsPair p.entry.at p.entry.fresh (plain p.entry.ask) r before after → IsLegalHistory c after
+      → AddsPair p.entry.at p.entry.fresh (plain p.entry.ask) r before after → IsLegalOp c (reverse after)
       → Both (IsOfTurn plain given mark past) (marked_turns plain given mark past) (turns (reverse before))
       → Both (IsOfCode plain given mark past) (marked_codes plain given mark none past) (codes_issued (reverse before))
       → Both (IsOfCode plain given mark (p ∷ past)) (marked_codes plain given mark none (p ∷ past)) (codes_issued (reverse after))
@@ -508,7 +508,7 @@ module _ {A R M : Type 0} (plain : A → Option OpAsk) (given : R → Option OpR
 
   -- after one more pair
   codes_more : (c : Configuration) (past : List (Pair A R)) (p : Pair A R) (before after : List OpPair)
-      → AddsGiven p.entry.at p.entry.fresh (plain p.entry.ask) (given p.reply) before after → IsLegalHistory c after
+      → AddsGiven p.entry.at p.entry.fresh (plain p.entry.ask) (given p.reply) before after → IsLegalOp c (reverse after)
       → Both (IsOfTurn plain given mark past) (marked_turns plain given mark past) (turns (reverse before))
       → Both (IsOfCode plain given mark past) (marked_codes plain given mark none past) (codes_issued (reverse before))
       → Both (IsOfCode plain given mark (p ∷ past)) (marked_codes plain given mark none (p ∷ past)) (codes_issued (reverse after))

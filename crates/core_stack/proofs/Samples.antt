@@ -1,6 +1,6 @@
 -- The definitions computed at the steps of a first login of the provider alone, where each request has the mark 7: what each accepts,
 -- and what it refuses.
-use Rattle.std.proofs.Common.{◌≡◌, ℕ, ◌+◌, true, false, List, [], ◌∷◌, Option, Some, None, refl, inl, inr, arith}
+use Rattle.std.proofs.Common.{◌≡◌, ◌∙◌, ℕ, ◌+◌, Bool, true, false, List, [], ◌∷◌, reverse, Option, Some, None, refl, inl, inr, arith}
 use Rattle.auth_request.specs.declared.wish.PageNo.TheVariants.{Browser}
 use Rattle.op_exchange.specs.declared.ask.OpAsk.{OpAsk}
 use Rattle.op_exchange.specs.declared.ask.OpAsk.TheVariants as ask
@@ -10,19 +10,20 @@ use Rattle.op_exchange.specs.Values.{IsOpAsk}
 use Rattle.op_exchange.specs.Weight.{ask_weight}
 use Rattle.op_exchange.proofs.Sample.{word, sample, wish}
 use Rattle.op_answer.specs.Answering.{op_answer}
-use Rattle.op_answer.specs.Legal.{IsLegalHistory}
-use Rattle.op_answer.proofs.FirstLogin.{pair_of, authorize_entry, login_page, past_login, login_entry, consent_page, past_consent, consent_entry, code_answer, past_code}
+use Rattle.op_answer.specs.Past.{OpPair}
+use Rattle.op_answer.specs.Legal.{IsLegalHistory, IsLegalOp}
+use Rattle.op_answer.proofs.FirstLogin.{pair_of, authorize_entry, authorize_gets_login, login_page, past_login, login_entry, consent_page, past_consent, consent_entry, code_answer, past_code}
 use Rattle.sso_base.specs.Journal.{most_of}
 use Rattle.sso_base.proofs.Histories.{beginning_is_legal}
 use Rattle.core_stack.specs.declared.kept.Kept.{Kept}
 use Rattle.core_stack.specs.declared.kept.Kept.TheVariants as kept
 use Rattle.core_stack.specs.declared.marks.TurnMark.{TurnMark}
-use Rattle.core_stack.specs.Stacks.{may_be_own, provider_pair, AddsPair, AddsGiven}
-use Rattle.core_stack.specs.OpStack.{op_adds}
+use Rattle.core_stack.specs.Stacks.{may_be_own, provider_pair, AddsPair, AddsGiven, AreNotices}
+use Rattle.core_stack.specs.OpStack.{op_adds, op_notices_are}
 use Rattle.core_stack.specs.Marks.{turn_mark, marked_turns, marked_turn, code_mark, marked_codes, marked_code, mark_in_code}
 use Rattle.core_stack.specs.Asked.{TurnAsked, CodeAtForm}
 use Rattle.core_stack.specs.Kept.{passed_count, merged}
-use Rattle.core_stack.specs.Stacked.{IsStack}
+use Rattle.core_stack.specs.Stacked.{IsStack, IsProvided}
 use Rattle.core_stack.specs.Holding.{HoldMarks}
 
 abbrev plain : OpAsk → Option OpAsk
@@ -149,9 +150,31 @@ provider_is_a_stack =
     record {
       begins = refl;
       beginnings = beginning_is_legal IsOpAsk (op_answer sample) ask_weight (most_of sample.lasting);
-      provider = λ h legal. legal;
+      provider = λ h legal. legal.past;
       adds = λ h p legal. op_adds h p;
     }
+
+-- each legal past of it, whatever it weighs, is one over which the laws of cores around it are said
+pub is_provided : (h : List OpPair) → IsLegalOp sample (reverse h) → IsProvided plain given given (λ l. l) sample h
+is_provided h legal = record { provider = legal; adds = λ front rest p parts. op_adds front p; gives = λ front rest p r parts is own. is }
+
+-- and no other
+another_reply-is_not_provided : IsProvided plain given given (λ l. l) sample (pair_of authorize_entry told.NotHere ∷ []) → ⊥
+another_reply-is_not_provided is = let led : told.NotHere ≡ login_page = is.provider.3 ∙ authorize_gets_login in cc
+
+-- ---- messages
+
+abbrev sign_out_pair : OpPair
+sign_out_pair = provider_pair 1000 [] (ask.SignOut None) (told.SignedOut [])
+
+sign_out-has_messages : AreNotices (Some []) [] (sign_out_pair ∷ [])
+sign_out-has_messages = (sign_out_pair, refl, refl)
+
+sign_out-has_not_none : AreNotices None [] (sign_out_pair ∷ []) → ⊥
+sign_out-has_not_none h = let k : ◌≡◌ {A = Bool} true false = h sign_out_pair refl in absurd (cc)
+
+page-has_none : AreNotices None [] (pair_of authorize_entry login_page ∷ [])
+page-has_none = op_notices_are [] (pair_of authorize_entry login_page)
 
 -- ---- what is kept
 

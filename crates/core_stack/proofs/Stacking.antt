@@ -1,15 +1,17 @@
 -- A core that stands around another one is a core that the provider is in, with the same history of the provider.
-use Rattle.std.proofs.Common.{◌≡◌, ℕ, List, [], ◌∷◌, ◌++◌, filter_map, Option, Some, None, sym, ap, subst, inl, inr}
+use Rattle.std.proofs.Common.{◌≡◌, ℕ, List, [], ◌∷◌, ◌++◌, filter_map, Option, Some, None, sym, ap, ◌∙◌, subst, inl, inr}
 use Rattle.sso_base.specs.Words.{Word}
 use Rattle.sso_base.specs.declared.history.Entry.{Entry}
 use Rattle.sso_base.specs.declared.history.Pair.{Pair}
+use Rattle.sso_base.specs.declared.message.Message.{Message}
 use Rattle.sso_base.proofs.RowLaws.{option_cases}
 use Rattle.client_registry.specs.Configuration.{Configuration}
 use Rattle.op_exchange.specs.declared.ask.OpAsk.{OpAsk}
 use Rattle.op_exchange.specs.declared.reply.OpReply.{OpReply}
 use Rattle.op_answer.specs.Past.{OpPair}
-use Rattle.core_stack.specs.Stacks.{AddsGiven}
+use Rattle.core_stack.specs.Stacks.{AddsGiven, AreNotices}
 use Rattle.core_stack.specs.Stacked.{IsAround, IsLegalStack, IsStack}
+use Rattle.core_stack.proofs.Added.{no_more}
 use Rattle.core_stack.proofs.Passing.{own_adds_none, passed_adds_one, beginning_is_legal}
 
 module _ {A R B T : Type 0} (plain : A → Option OpAsk) (given : R → Option OpReply) (outer_plain : B → Option OpAsk) (outer_given : T → Option OpReply) (passed : Pair B T → Option (Pair A R))
@@ -38,6 +40,28 @@ module _ {A R B T : Type 0} (plain : A → Option OpAsk) (given : R → Option O
       → ((q : Pair A R) → passed p ≡ Some q → AddsGiven q.entry.at q.entry.fresh (plain q.entry.ask) (given q.reply) (provided (filter_map passed h)) (provided (filter_map passed h ++ q ∷ [])))
       → AddsGiven p.entry.at p.entry.fresh (outer_plain p.entry.ask) (outer_given p.reply) (provided (filter_map passed h)) (provided (filter_map passed (h ++ p ∷ [])))
   outer_adds h p adds = elim (option_cases (passed p)) [ inl none ↦ own_adds h p none | inr some ↦ passed_adds h p some.0 some.1 (adds some.0 some.1) ]
+
+-- a reply to what was passed on has the messages of the inner core's reply, and any other reply has none
+module _ {A R B T : Type 0} (passed : Pair B T → Option (Pair A R)) (provided : List (Pair A R) → List OpPair) (notices : Option (List Message)) (h : List (Pair B T)) (p : Pair B T) where
+  quiet_adds : passed p ≡ None → notices ≡ None → AreNotices notices (provided (filter_map passed h)) (provided (filter_map passed (h ++ p ∷ [])))
+  quiet_adds none quiet =
+      let before : List OpPair = provided (filter_map passed h) in
+      let after : List OpPair = provided (filter_map passed (h ++ p ∷ [])) in
+      let P : List (Pair A R) → List OpPair = λ l. provided l in
+      let same : after ≡ before = ap P (own_adds_none passed h p none) in
+      let N : Option (List Message) → Type 0 = λ o. AreNotices o before after in
+      let adds_none : N None = λ q more. absurd (no_more before q (sym same ∙ more)) in
+      subst N (sym quiet) adds_none
+
+  pub outer_notices_are : (passed p ≡ None → notices ≡ None)
+      → ((q : Pair A R) → passed p ≡ Some q → AreNotices notices (provided (filter_map passed h)) (provided (filter_map passed h ++ q ∷ [])))
+      → AreNotices notices (provided (filter_map passed h)) (provided (filter_map passed (h ++ p ∷ [])))
+  outer_notices_are quiet inner =
+      let L : List (Pair A R) → Type 0 = λ l. AreNotices notices (provided (filter_map passed h)) (provided l) in
+      elim (option_cases (passed p)) [
+        | inl none ↦ quiet_adds none (quiet none)
+        | inr some ↦ subst L (sym (passed_adds_one passed h p some.0 some.1)) (inner some.0 some.1)
+      ]
 
 -- what was passed on is legal inside
 pub legal_inside : {A R B T S : Type 0} (IsAsk : B → Type 0) (IsReply : List (Pair B T) → Entry B → T → Type 0) (passed : Pair B T → Option (Pair A R)) (weighs : B → ℕ) (most : S → ℕ)

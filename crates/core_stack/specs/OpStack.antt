@@ -1,5 +1,6 @@
 -- The provider alone, as a core that stands around the provider: lemmas that its implementation of `Provides` cites.
-use Rattle.std.proofs.Common.{◌≡◌, ◌++◌, ◌∷◌, [], List, reverse, Option, Some, None, refl, ap, ◌∙◌, sym, subst, inl, inr}
+use Rattle.std.proofs.Common.{◌≡◌, ◌++◌, ◌∷◌, [], List, reverse, slice_index_or, Option, Some, None, refl, ap, ◌∙◌, sym, subst, inl, inr}
+use Rattle.std.proofs.lemmas.List.{append_cancel_left}
 use Rattle.sso_base.specs.Words.{Word}
 use Rattle.sso_base.specs.Legal.{IsLegalBy}
 use Rattle.sso_base.specs.declared.history.Entry.{Entry}
@@ -21,7 +22,7 @@ use Rattle.op_answer.specs.Legal.{IsLegalHistory}
 use Rattle.op_answer.specs.Causes.{SignedOutCause}
 use Rattle.op_answer.proofs.KeptNames.{some_same}
 use Rattle.op_answer.proofs.SignOuts.{caused_sign_outs}
-use Rattle.core_stack.specs.Stacks.{AddsPair}
+use Rattle.core_stack.specs.Stacks.{AddsPair, is_sign_out, AreNotices}
 
 -- the messages of a sign-out
 abbrev pub op_notices : OpReply → Option (List Message)
@@ -55,3 +56,21 @@ op_signs_out c h p w legal asked =
     let said = sign_out_told c (reverse h) p.entry w (some_same p.entry.ask (op_ask.SignOut w) asked) in
     let is : p.reply ≡ SignedOut said.0 = answered ∙ said.1 in
     (said.0, ap (λ x. Some x) is, ap (λ x. op_notices x) is)
+
+-- the last elements are the same
+pub last_same : {X : Type 0} (l : List X) (x y : X) → l ++ x ∷ [] ≡ l ++ y ∷ [] → x ≡ y
+last_same {X} l x y same =
+    let F : List X → X = λ m. slice_index_or m 0 x in
+    ap F (append_cancel_left l (x ∷ []) (y ∷ []) same)
+
+notices_by : (r : OpReply) (h : List OpPair) (p : OpPair) → p.reply ≡ r → AreNotices (op_notices r) h (h ++ p ∷ [])
+notices_by (SignedOut messages) h p is = (p, refl, is)
+notices_by r h p is = λ q same. ap (λ (x : OpPair). is_sign_out x.reply) (sym (last_same h p q same)) ∙ ap (λ (x : OpReply). is_sign_out x) is
+
+-- its messages are those of its sign-outs
+pub op_notices_are : (h : List OpPair) (p : OpPair) → AreNotices (op_notices p.reply) h (h ++ p ∷ [])
+op_notices_are h p = notices_by p.reply h p refl
+
+-- it reads each request
+pub op_reads : (read a : OpAsk) → ◌≡◌ {A = Option OpAsk} (Some read) (Some a) → a ≡ read
+op_reads read a same = sym (some_same read a same)

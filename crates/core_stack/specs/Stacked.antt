@@ -1,6 +1,6 @@
 -- Legal histories of a core that stands around another one. B and T are its requests and replies, A and R those of the inner core.
 -- `passed` gives the pair of the inner core of an entry that was passed on.
-use Rattle.std.specs.Prelude.{◌≡◌, ◌≤◌, ℕ, List, [], ◌∷◌, ◌++◌, reverse, filter_map, Option, Some, None}
+use Rattle.std.specs.Prelude.{◌≡◌, ◌≤◌, ℕ, false, List, [], ◌∷◌, ◌++◌, reverse, filter_map, Option, Some, None}
 use Rattle.sso_base.specs.Legal.{last_moment, IsEntry}
 use Rattle.sso_base.specs.Journal.{history_weight}
 use Rattle.sso_base.specs.declared.history.Entry.{Entry}
@@ -9,8 +9,8 @@ use Rattle.client_registry.specs.Configuration.{Configuration}
 use Rattle.op_exchange.specs.declared.ask.OpAsk.{OpAsk}
 use Rattle.op_exchange.specs.declared.reply.OpReply.{OpReply}
 use Rattle.op_answer.specs.Past.{OpPair}
-use Rattle.op_answer.specs.Legal.{IsLegalHistory}
-use Rattle.core_stack.specs.Stacks.{AddsGiven}
+use Rattle.op_answer.specs.Legal.{IsLegalOp}
+use Rattle.core_stack.specs.Stacks.{may_be_own, AddsGiven}
 
 module _ {B T : Type 0} (IsAsk : B → Type 0) (IsReply : List (Pair B T) → Entry B → T → Type 0) where
   -- in a past, newest pair first: each entry has possible values and gets a reply of this core, and time never goes back
@@ -40,12 +40,23 @@ pub record IsLegalStack
   pub inner : IsLegalInner s (filter_map passed h)
   pub light : history_weight weighs h ≤ most s
 
--- what the laws of `Provides` say of the legal histories of one core, whose provider has this configuration
+-- what the laws of `Provides` say of the legal histories of one core, whose provider has this configuration; they need no weights
 pub record IsStack
     {A R : Type 0} (plain : A → Option OpAsk) (given : R → Option OpReply) (provided : List (Pair A R) → List OpPair)
     (IsLegal : List (Pair A R) → Type 0) (c : Configuration) : Type 0 where
   pub begins : provided [] ≡ []
   pub beginnings : (front rest : List (Pair A R)) → IsLegal (front ++ rest) → IsLegal front
-  pub provider : (h : List (Pair A R)) → IsLegal h → IsLegalHistory c (provided h)
+  pub provider : (h : List (Pair A R)) → IsLegal h → IsLegalOp c (reverse (provided h))
   pub adds : (h : List (Pair A R)) (p : Pair A R) → IsLegal (h ++ p ∷ [])
       → AddsGiven p.entry.at p.entry.fresh (plain p.entry.ask) (given p.reply) (provided h) (provided (h ++ p ∷ []))
+
+-- The provider's history in one history of a core, oldest pair first, whatever it weighs: it is legal, each step of the core added to it
+-- what the provider gave, and the provider gave all but refusals. `told` gives the provider's reply in a reply, whoever gave it.
+pub record IsProvided
+    {A R : Type 0} (plain : A → Option OpAsk) (told given : R → Option OpReply) (provided : List (Pair A R) → List OpPair)
+    (c : Configuration) (h : List (Pair A R)) : Type 0 where
+  pub provider : IsLegalOp c (reverse (provided h))
+  pub adds : (front rest : List (Pair A R)) (p : Pair A R) → h ≡ front ++ p ∷ rest
+      → AddsGiven p.entry.at p.entry.fresh (plain p.entry.ask) (given p.reply) (provided front) (provided (front ++ p ∷ []))
+  pub gives : (front rest : List (Pair A R)) (p : Pair A R) (r : OpReply) → h ≡ front ++ p ∷ rest → told p.reply ≡ Some r
+      → may_be_own r ≡ false → given p.reply ≡ Some r

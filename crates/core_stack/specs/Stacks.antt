@@ -2,9 +2,10 @@
 -- the provider's history.
 use Rattle.std.specs.Prelude.{◌≡◌, ◌⊎◌, ◌++◌, ◌∷◌, [], ℕ, List, Bool, true, false, Option, Some, None}
 use Rattle.sso_base.specs.Words.{Word}
+use Rattle.sso_base.specs.declared.message.Message.{Message}
 use Rattle.op_exchange.specs.declared.ask.OpAsk.{OpAsk}
 use Rattle.op_exchange.specs.declared.reply.OpReply.{OpReply}
-use Rattle.op_exchange.specs.declared.reply.OpReply.TheVariants.{LoginPage, ConsentPage, Answered, Refused, Tokens, TokenRefused}
+use Rattle.op_exchange.specs.declared.reply.OpReply.TheVariants.{LoginPage, ConsentPage, Answered, Refused, Tokens, TokenRefused, SignedOut}
 use Rattle.op_answer.specs.Past.{OpPair}
 
 -- a core that stands around the provider gives no other reply of the provider by itself
@@ -49,3 +50,14 @@ AddsGiven at fresh asked None before after = (after ≡ before) ⊎ AddsHidden a
 abbrev pub AddsAtMostOne : ℕ → List Word → List OpPair → List OpPair → Type 0
 AddsAtMostOne at fresh before after =
     (after ≡ before) ⊎ ((q : OpPair) × (after ≡ before ++ q ∷ []) × (q.entry.at ≡ at) × (q.entry.fresh ≡ fresh))
+
+-- ---- sign-outs
+
+abbrev pub is_sign_out : OpReply → Bool
+is_sign_out (SignedOut messages) = true
+is_sign_out reply = false
+
+-- by the messages of a core's reply: with messages, the step added a sign-out with these to the provider's history; without, it added none
+abbrev pub AreNotices : Option (List Message) → List OpPair → List OpPair → Type 0
+AreNotices (Some messages) before after = (q : OpPair) × (after ≡ before ++ q ∷ []) × (q.reply ≡ SignedOut messages)
+AreNotices None before after = (q : OpPair) → after ≡ before ++ q ∷ [] → is_sign_out q.reply ≡ false

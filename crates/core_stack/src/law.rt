@@ -10,6 +10,7 @@ ghost use Rattle.op_exchange.specs.declared.reply.OpReply.{OpReply};
 ghost use Rattle.op_exchange.specs.declared.reply.OpReply.TheVariants as op_told;
 ghost use Rattle.op_answer.specs.Past.{OpPair};
 ghost use Rattle.core_stack.specs.Stacks.{may_be_own, is_shown, provider_pair, AddsAtMostOne};
+ghost use Rattle.core_stack.specs.Stacked.{IsProvided};
 
 use crate::provides::Provides;
 
@@ -38,4 +39,11 @@ pub fn sign_outs_are_added<P: Provides>()
         → P.plain_ask p.entry.ask ≡ Some (op_ask.SignOut w)
         → (sent : List Message) × (P.op_reply p.reply ≡ Some (op_told.SignedOut sent)) × (P.notices p.reply ≡ Some sent)
         × (P.provided (h ++ p ∷ []) ≡ P.provided h ++ provider_pair p.entry.at p.entry.fresh (op_ask.SignOut w) (op_told.SignedOut sent) ∷ []) }
+{}
+
+/// Over each legal history of a core, whatever its weight, the provider's history is legal, each step added to it what the provider
+/// gave, and the provider gave all but refusals. So laws of cores around the provider are said over these histories.
+pub fn legal_histories_are_provided<P: Provides>()
+    ensures { (x : P) (h : List (Pair P.Ask P.Reply)) → P.is_legal (P.setup x) h
+        → IsProvided P.plain_ask P.op_reply P.given_reply P.provided (P.provider_registry x) h }
 {}

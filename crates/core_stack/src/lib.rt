@@ -32,7 +32,10 @@ mod sending;
 pub use holding::{keep_codes, keep_turns, kept_code, live_turn};
 pub use kept::Kept;
 pub use kept_journal::KeptJournal;
-pub use law::{sign_outs_are_added, steps_add_only_what_they_say, steps_add_what_they_say};
+pub use law::{
+    legal_histories_are_provided, sign_outs_are_added, steps_add_only_what_they_say,
+    steps_add_what_they_say,
+};
 pub use marking::{code_made, ends_turn, is_wish, turn_begun, turn_ended, turn_named};
 pub use marks::{CodeMark, TurnMark};
 pub use provides::Provides;

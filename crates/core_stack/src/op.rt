@@ -96,5 +96,9 @@ impl Provides for OpCore {
 
     ghost signs_out = { λ s h p w legal asked. op.op_signs_out s h p w legal asked };
 
+    ghost notices_are = { λ s h p legal. op.op_notices_are h p };
+
+    ghost reads_requests = { λ c request a same. op.op_reads (op_prepared c request) a same };
+
     ghost plain_of = { λ a. refl };
 }

@@ -24,7 +24,8 @@ pub trait Provides: Core {
     ghost use Rattle.op_exchange.specs.declared.reply.OpReply as reply_of;
     ghost use Rattle.op_exchange.specs.declared.reply.OpReply.TheVariants as op_told;
     ghost use Rattle.op_answer.specs.Legal.{IsLegalHistory};
-    ghost use Rattle.core_stack.specs.Stacks.{may_be_own, AddsGiven};
+    ghost use Rattle.op_request.specs.Prepared as requests;
+    ghost use Rattle.core_stack.specs.Stacks.{may_be_own, AddsGiven, AreNotices};
 
     /// The registry of its setup.
     ghost provider_registry: { Self → configuration.Configuration };
@@ -41,7 +42,7 @@ pub trait Provides: Core {
     /// The reply that the provider gave, if it gave one.
     ghost given_reply: { Self.Reply → Option reply_of.OpReply };
 
-    /// The messages of a sign-out.
+    /// The messages of a sign-out, and `None` for any other reply.
     ghost notices: { Self.Reply → Option (List message_of.Message) };
 
     /// The request in an HTTP request.
@@ -122,6 +123,14 @@ pub trait Provides: Core {
     ghost signs_out: { (s : Self.Setup) (h : List (pair_of.Pair Self.Ask Self.Reply)) (p : pair_of.Pair Self.Ask Self.Reply)
         (w : Option words.Word) → Self.is_legal s (h ++ p ∷ []) → plain_ask p.entry.ask ≡ Some (op_ask.SignOut w)
         → (sent : List message_of.Message) × (given_reply p.reply ≡ Some (op_told.SignedOut sent)) × (notices p.reply ≡ Some sent) };
+
+    /// A reply has messages if and only if its step added a sign-out to the provider's history, and they are those of that sign-out.
+    ghost notices_are: { (s : Self.Setup) (h : List (pair_of.Pair Self.Ask Self.Reply)) (p : pair_of.Pair Self.Ask Self.Reply)
+        → Self.is_legal s (h ++ p ∷ []) → AreNotices (notices p.reply) (provided h) (provided (h ++ p ∷ [])) };
+
+    /// The provider's request that is read of an HTTP request, if there is one, is the one that the provider alone reads of it.
+    ghost reads_requests: { (c : configuration.Configuration) (request : asks.Ask) (a : ask_of.OpAsk)
+        → plain_ask (prepared c request) ≡ Some a → a ≡ requests.prepared c request };
 
     /// A request for the provider alone is that request of the provider.
     ghost plain_of: { (a : ask_of.OpAsk) → plain_ask (from_op a) ≡ Some a };

@@ -6,6 +6,7 @@ use Rattle.configuration_rows.specs.declared.no.RegNo.TheVariants.{WrongKind}
 use Rattle.client_registry.specs.declared.records.Client.{Client}
 use Rattle.client_registry.specs.Configuration.{Configuration}
 use Rattle.client_registry.proofs.SampleRegistry.{op}
+use Rattle.client_registry.specs.Records.{usual_settings}
 use Rattle.request_params.specs.Form.{Pair}
 use Rattle.id_token.specs.declared.no.IdNo.TheVariants as id_no
 use Rattle.end_request.specs.declared.wish.EndNo.TheVariants as no
@@ -84,6 +85,7 @@ site =
       lasting = false;
       full_pages = false;
       title = codes "127.0.0.1";
+      settings = usual_settings;
     }
 
 abbrev none : List Pair

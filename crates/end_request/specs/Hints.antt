@@ -23,6 +23,11 @@ is_for issuer id (Err why) = false
 abbrev pub is_hint_for : Text → Text → Client → Bool
 is_hint_for issuer hint client = is_for issuer client.id (id_read_for client hint)
 
+-- the audience that a text names has the client
+abbrev pub names : Option (List Text) → Text → Bool
+names None id = false
+names (Some aud) id = has_text id aud
+
 -- the request names this client, or none
 abbrev pub may_be : Option ℕ → ℕ → Bool
 may_be None n = true

@@ -1,12 +1,13 @@
 // The client of a hint.
 
 ghost use Rattle.std.specs.Prelude.{◌≡◌, IfOk};
+ghost use Rattle.id_token.specs.Reading.{audience_in};
 ghost use Rattle.end_request.specs.Hints as spec;
 
 use client_keys::opening_key;
 use client_registry::{Client, Registry};
-use id_token::{IdClaims, IdNo, read_id};
-use sso_base::{NoMemory, Text};
+use id_token::{IdClaims, IdNo, named_audience, read_id};
+use sso_base::{NoMemory, Text, Texts};
 use std::alloc::Global;
 
 /// An ID Token, or why it is none.
@@ -51,24 +52,42 @@ fn may_be(named: Option<u32>, n: u32) -> bool
     }
 }
 
+// Whether this audience has the client.
+fn is_named(aud: &Option<Texts>, id: &str) -> bool
+    ensures { result ≡ spec.names aud.now id.now }
+{
+    match aud {
+        Some(aud) => aud.has(id),
+        None => false,
+    }
+}
+
+// Whether a hint with this audience fits the client. No key is tried for a client that the hint does not name.
+#[tactic(auto, using(crate::proofs::Naming::unnamed_misses))]
 fn fits(
     alloc: Global,
     issuer: &str,
     named: Option<u32>,
     hint: &Text,
+    aud: &Option<Texts>,
     n: u32,
     client: &Client,
 ) -> Result<bool, NoMemory>
+    requires { aud.now ≡ audience_in hint.now }
     ensures { IfOk result (λ b. b ≡ spec.fits issuer.now named hint.now n client.now) }
 {
     if !may_be(named, n) {
+        return Ok(false);
+    }
+    if !is_named(aud, client.id.as_str()) {
         return Ok(false);
     }
     is_hint_for(alloc, issuer, hint, client)
 }
 
 /// The first client that a hint fits: the hint is an ID Token of the provider for the client, sealed under one of the client's
-/// secrets. If the request names a client, it is that one or none.
+/// secrets. If the request names a client, it is that one or none. The audience is read once; only the secrets of clients in it
+/// are tried.
 pub(crate) fn fitting(
     alloc: Global,
     registry: &Registry,
@@ -78,8 +97,9 @@ pub(crate) fn fitting(
     ensures { IfOk result (λ n. n ≡ spec.fitting_from registry.now.provider.issuer named hint.now 0 registry.now.clients) }
 {
     let issuer = registry.provider().issuer.as_str();
+    let aud = named_audience(alloc, hint.as_str().as_bytes())?;
     for n in 0..registry.clients() {
-        if fits(alloc, issuer, named, hint, n, registry.client(n))? {
+        if fits(alloc, issuer, named, hint, &aud, n, registry.client(n))? {
             return Ok(Some(n));
         }
     }

@@ -1,9 +1,12 @@
 // Laws about where a browser is sent after a sign-out.
 
-ghost use Rattle.std.specs.Prelude.{◌≡◌, ℕ, List, Some, Ok};
+ghost use Rattle.std.specs.Prelude.{◌≡◌, ℕ, List, Some, Ok, true};
 ghost use Rattle.sso_base.specs.Words.{Text};
 ghost use Rattle.client_registry.specs.Configuration.{Configuration};
 ghost use Rattle.client_registry.specs.Reading.{registry_read};
+ghost use Rattle.client_registry.specs.declared.records.Client.{Client};
+ghost use Rattle.id_token.specs.Reading.{audience_in};
+ghost use Rattle.end_request.specs.Hints.{is_hint_for, names};
 ghost use Rattle.end_request.specs.declared.wish.EndWish.{EndWish};
 ghost use Rattle.end_request.specs.Returning.{ReturnLists, returns_read, AreOfClients};
 ghost use Rattle.end_request.specs.Ending.{end_read, location, IsRegisteredReturn};
@@ -20,4 +23,9 @@ pub fn browsers_are_sent_to_registered_uris()
 pub fn returns_are_those_of_the_clients()
     ensures { (bytes : List ℕ) (c : Configuration) (returns : ReturnLists)
         → registry_read bytes ≡ Ok c → returns_read bytes ≡ Ok returns → AreOfClients c returns }
+{}
+
+/// A client whose ID Token a hint is is in the audience that the text names, which is read before a key is tried.
+pub fn hints_name_their_client()
+    ensures { (issuer hint : Text) (client : Client) → is_hint_for issuer hint client ≡ true → names (audience_in hint) client.id ≡ true }
 {}

@@ -19,7 +19,9 @@ mod returning;
 mod returns;
 mod wish;
 
-pub use law::{browsers_are_sent_to_registered_uris, returns_are_those_of_the_clients};
+pub use law::{
+    browsers_are_sent_to_registered_uris, hints_name_their_client, returns_are_those_of_the_clients,
+};
 pub use locations::location;
 pub use reading::read_end;
 pub use returning::read_returns;

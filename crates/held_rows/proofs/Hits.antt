@@ -8,18 +8,11 @@ use Rattle.std.proofs.lemmas.List.Elements.{filter-append}
 use Rattle.std.proofs.lemmas.List.Folds.{list_any-append}
 use Rattle.sso_base.proofs.RowLaws.{bool_cases, option_cases}
 use Rattle.held_rows.specs.Counts.{count, Lists}
+pub use Rattle.held_rows.specs.Index.{hit_of, hit}
 use Rattle.held_rows.specs.Index.{key_in, IsIndex, IsStart}
 use Rattle.held_rows.proofs.Counts.{same_or_other, count-middle, split_count, place_count, listed_row}
 use Rattle.held_rows.proofs.Ends.{none_pass}
 use Rattle.held_rows.proofs.HeldLaws.{filter_short}
-
--- a slot whose row passes
-abbrev pub hit_of : {R : Type 0} → (R → Bool) → Option R → Bool
-hit_of p None = false
-hit_of p (Some row) = p row
-
-abbrev pub hit : {R : Type 0} → (R → Bool) → (ℕ → Option R) → ℕ → Bool
-hit p f slot = hit_of p (f slot)
 
 -- ---- rows, and their slots
 

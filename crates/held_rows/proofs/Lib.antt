@@ -22,4 +22,5 @@ pub mod Serials
 pub mod StoredAdd
 pub mod StoredChange
 pub mod StoredRemove
+pub mod Swept
 pub mod Exactly

@@ -1,7 +1,7 @@
 -- Rows in slots, and deques of slot numbers over them: one in the order of issue, and one for each key, in the order of the
 -- key's bytes.
 use Rattle.std.specs.Prelude.{◌≡◌, ◌<◌, ◌≤◌, ◌==◌, ℕ, suc, List, [], ◌∷◌, ◌++◌, map, length, slice_index, slice_index_or, Option, Some, None, option_map}
-use Rattle.std.specs.Prelude.{option_and_then, unwrap_or, if◌then◌else◌, IfSome, IsSome, false}
+use Rattle.std.specs.Prelude.{option_and_then, unwrap_or, if◌then◌else◌, IfSome, IsSome, is_some, Bool, true, false, ◌+◌}
 use Rattle.std.specs.List.{AllByRecursion, filter_map}
 use Rattle.std.specs.Cmp.Lexicographic.{slice_cmp}
 use Rattle.std.specs.Ordering.{nat_cmp}
@@ -14,7 +14,7 @@ use Rattle.held_rows.specs.declared.stored.Issued.{Issued}
 use Rattle.held_rows.specs.declared.stored.Stored.{Stored}
 use Rattle.held_rows.specs.Counts.{Lists}
 use Rattle.held_rows.specs.Held.{IsHeld}
-use Rattle.held_rows.specs.SlotList.{SlotList, get, value_count}
+use Rattle.held_rows.specs.SlotList.{SlotList, get, value_count, Changes}
 
 -- ---- the contents of slots: rows with serial numbers
 
@@ -40,6 +40,32 @@ module _ {R : Type 0} (slots : SlotList (Issued R)) where
 -- the rows in slots, without one slot
 abbrev pub all_but : {R : Type 0} → ℕ → (ℕ → Option R) → ℕ → Option R
 all_but slot row other = if other == slot then None else row other
+
+-- what a slot has after the rows that pass were removed
+abbrev pub left : {R : Type 0} → (R → Bool) → Option (Issued R) → Option (Issued R)
+left p None = None
+left p (Some issued) = if p issued.row then None else Some issued
+
+-- a slot whose row passes
+abbrev pub hit_of : {R : Type 0} → (R → Bool) → Option R → Bool
+hit_of p None = false
+hit_of p (Some row) = p row
+
+abbrev pub hit : {R : Type 0} → (R → Bool) → (ℕ → Option R) → ℕ → Bool
+hit p row slot = hit_of p (row slot)
+
+-- where the row in a slot passes it was removed, and one was counted, and else nothing
+pub record IsEmptied {R : Type 0} (p : R → Bool) (old new : SlotList (Issued R)) (slot number : ℕ) : Type 0 where
+  pub one : hit p (row_at old) slot ≡ true → number ≡ 1
+  pub changes : hit p (row_at old) slot ≡ true → Changes (get old) (get new) slot None
+  pub fewer : hit p (row_at old) slot ≡ true → value_count new + 1 ≡ value_count old
+  pub none : hit p (row_at old) slot ≡ false → number ≡ 0
+  pub same : hit p (row_at old) slot ≡ false → new ≡ old
+  pub capacity : new.capacity ≡ old.capacity
+
+-- the slots that have a row
+abbrev pub has_row : {R : Type 0} → SlotList (Issued R) → ℕ → Bool
+has_row slots slot = is_some (row_at slots slot)
 
 -- ---- an index: `row` gives the row in each slot, and `key` a key of a row
 

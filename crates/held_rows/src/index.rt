@@ -1,15 +1,15 @@
 // The slots of the rows that have a key, each once, in the order of the key's bytes.
 
-ghost use Rattle.std.specs.Prelude.{◌≡◌, ◌<◌, ◌≤◌, length, map, true, Some, None, unwrap_or, option_and_then, option_map, IfOk, IfErr, IsSome};
+ghost use Rattle.std.specs.Prelude.{◌≡◌, ◌<◌, ◌≤◌, length, map, true, Some, None, unwrap_or, option_and_then, option_map, filter, IfOk, IfErr, IsSome};
 ghost use Rattle.std.specs.VecDeque.{deque_capacity};
 ghost use Rattle.std.specs.Str.{bytes_eq};
 ghost use Rattle.std.specs.Cmp.Lexicographic.{slice_cmp};
 ghost use Rattle.std.specs.Ordering.{nat_cmp};
-ghost use Rattle.held_rows.specs.Index.{row_at, all_but, key_in, rank, rank_in, IsAscending, IsIndex, IsStart, IsPlace, IsGap};
+ghost use Rattle.held_rows.specs.Index.{row_at, all_but, key_in, rank, rank_in, has_row, IsAscending, IsIndex, IsStart, IsPlace, IsGap};
 
 use crate::row::{By, Row};
 use crate::slot_vec::SlotVec;
-use crate::stored::Issued;
+use crate::stored::{Issued, row_in};
 use std::cmp::Ordering;
 use std::collections::VecDeque;
 
@@ -124,4 +124,19 @@ pub(crate) fn take_from<R: Row>(
         unreachable!()
     };
     let _ = index.remove(place);
+}
+
+// Whether a slot has a row.
+fn is_held<R>(slots: &SlotVec<Issued<R>>, slot: u16) -> bool
+    ensures { result ≡ has_row slots.now slot }
+{
+    row_in(slots, slot).is_some()
+}
+
+// Removes the slots that have no row, in one pass.
+pub(crate) fn keep_held<R>(slots: &SlotVec<Issued<R>>, index: &mut VecDeque<u16>)
+    ensures items { index.new.items ≡ filter (has_row slots.now) index.old.items }
+    ensures capacity { deque_capacity index.new ≡ deque_capacity index.old }
+{
+    index.retain(|&slot| is_held(slots, slot));
 }

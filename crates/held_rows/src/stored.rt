@@ -1,21 +1,24 @@
 // Rows in slots, and deques of slot numbers over them: one in the order of issue, and one for each key, in the order of the
 // key's bytes.
 
-ghost use Rattle.std.specs.Prelude.{◌≡◌, ◌<◌, ◌≤◌, [], ◌∷◌, ◌++◌, length, map, filter, not, slice_index, Some, None, true};
+ghost use Rattle.std.specs.Prelude.{◌≡◌, ◌+◌, ◌<◌, ◌≤◌, ℕ, [], ◌∷◌, ◌++◌, length, map, filter, not, slice_index, Some, None, true};
 ghost use Rattle.std.specs.Prelude.{option_copied, OnOk, IfSome, IfNone, IsSome, is_some};
 ghost use Rattle.std.specs.List.{list_any};
 ghost use Rattle.sso_base.specs.Rows.{row_of, live_rows};
 ghost use Rattle.held_rows.specs.Held as spec;
 ghost use Rattle.held_rows.specs.Counts.{Lists};
-ghost use Rattle.held_rows.specs.Index.{row_at, serial_at, IsIndex, IsRising, IsStored, IsRemoved, IsReplaced, stored_rows, stored_capacity, IsRowAt, IsOverAt};
-ghost use Rattle.held_rows.specs.SlotList.{HasValue};
+ghost use Rattle.held_rows.specs.Index.{row_at, serial_at, IsIndex, IsRising, IsStored, IsRemoved, IsReplaced, stored_rows, stored_capacity, rows_at, left, hit, IsEmptied, IsRowAt, IsOverAt};
+ghost use Rattle.held_rows.specs.SlotList.{HasValue, get, value_count};
 
-use crate::index::{is_at, put_in, start, take_from};
+use crate::index::{is_at, keep_held, put_in, start, take_from};
 use crate::row::{By, Change, Row, Test};
 use crate::slot_vec::SlotVec;
 use sso_base::{Moment, NoMemory, is_live};
 use std::alloc::Global;
 use std::collections::VecDeque;
+
+// At most so many rows are removed one after the other. Then a pass over all rows takes about as long.
+const FEW_ROWS: u32 = 256;
 
 // A row and its place in the order of issue.
 #[derive(Drop)]
@@ -80,6 +83,53 @@ fn place_of<R>(slots: &SlotVec<Issued<R>>, by_issue: &VecDeque<u16>, slot: u16) 
         }
     }
     unreachable!()
+}
+
+// Whether the row in a slot passes the test.
+fn passes_in<R: Row, T: Test<R>>(slots: &SlotVec<Issued<R>>, slot: u16, test: &T) -> bool
+    ensures { result ≡ hit (T.passes test.now) (row_at slots.now) slot }
+{
+    match row_in(slots, slot) {
+        Some(row) => test.passes(row),
+        None => false,
+    }
+}
+
+// Removes the row in a slot, if it passes the test, and returns whether it does as a number. The indices still have the slot.
+fn empty_slot<R: Row + Drop, T: Test<R>>(
+    slots: &mut SlotVec<Issued<R>>,
+    slot: u16,
+    test: &T,
+) -> u32
+    ensures { IsEmptied (T.passes test.now) slots.old slots.new slot result }
+{
+    if !passes_in(slots, slot, test) {
+        return 0;
+    }
+    let _ = slots.remove(slot);
+    1
+}
+
+// Removes the rows that pass the test from their slots, and returns their number. The indices still have these slots.
+fn empty_slots<R: Row + Drop, T: Test<R>>(
+    slots: &mut SlotVec<Issued<R>>,
+    by_issue: &VecDeque<u16>,
+    test: &T,
+) -> u32
+    requires issued { Lists (row_at slots.old) by_issue.now.items }
+    requires few { length by_issue.now.items ≤ spec.most_rows }
+    ensures left { (slot : ℕ) → get slots.new slot ≡ left (T.passes test.now) (get slots.old slot) }
+    ensures count { result ≡ length (filter (T.passes test.now) (rows_at slots.old by_issue.now.items)) }
+    ensures values { value_count slots.new + result ≡ value_count slots.old }
+    ensures capacity { slots.new.capacity ≡ slots.old.capacity }
+{
+    let mut count = 0;
+    for place in 0..by_issue.len() {
+        let slot = by_issue[place];
+        let emptied = empty_slot(slots, slot, test);
+        count += emptied;
+    }
+    count
 }
 
 impl<R: Row + Drop> Stored<R> {
@@ -274,8 +324,8 @@ impl<R: Row + Drop> Stored<R> {
         }
     }
 
-    // Removes the rows that pass the test and returns their number.
-    pub(crate) fn take_out<T: Test<R>>(&mut self, test: &T) -> u32
+    // Removes the rows that pass the test, one after the other, and returns their number.
+    fn take_each<T: Test<R>>(&mut self, test: &T) -> u32
         requires { IsStored R.name R.key R.begun R.IsSound self.old }
         ensures stored { IsStored R.name R.key R.begun R.IsSound self.new }
         ensures rows { stored_rows self.new ≡ filter (λ row. not (T.passes test.now row)) (stored_rows self.old) }
@@ -288,6 +338,38 @@ impl<R: Row + Drop> Stored<R> {
             count += 1;
         }
         count
+    }
+
+    // The same in one pass over the rows, and one over each index.
+    fn take_all<T: Test<R>>(&mut self, test: &T) -> u32
+        requires { IsStored R.name R.key R.begun R.IsSound self.old }
+        ensures stored { IsStored R.name R.key R.begun R.IsSound self.new }
+        ensures rows { stored_rows self.new ≡ filter (λ row. not (T.passes test.now row)) (stored_rows self.old) }
+        ensures count { result ≡ length (filter (T.passes test.now) (stored_rows self.old)) }
+        ensures capacity { stored_capacity self.new ≡ stored_capacity self.old }
+    {
+        let count = empty_slots(&mut self.slots, &self.by_issue, test);
+        keep_held(&self.slots, &mut self.by_issue);
+        keep_held(&self.slots, &mut self.by_name);
+        keep_held(&self.slots, &mut self.by_group);
+        keep_held(&self.slots, &mut self.by_other);
+        count
+    }
+
+    // Removes the rows that pass the test and returns their number. Few rows are removed one after the other, each of which
+    // moves a part of each index; many are removed in one pass.
+    pub(crate) fn take_out<T: Test<R>>(&mut self, test: &T) -> u32
+        requires { IsStored R.name R.key R.begun R.IsSound self.old }
+        ensures stored { IsStored R.name R.key R.begun R.IsSound self.new }
+        ensures rows { stored_rows self.new ≡ filter (λ row. not (T.passes test.now row)) (stored_rows self.old) }
+        ensures count { result ≡ length (filter (T.passes test.now) (stored_rows self.old)) }
+        ensures capacity { stored_capacity self.new ≡ stored_capacity self.old }
+    {
+        if self.count(test) <= FEW_ROWS {
+            self.take_each(test)
+        } else {
+            self.take_all(test)
+        }
     }
 
     // Removes the rows that do not live at the moment.

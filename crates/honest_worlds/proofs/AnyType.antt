@@ -99,7 +99,7 @@ module _ (wants : Wants) where
   party_rules : IsParty (asker wants)
   party_rules =
       let s : IsParty shop = registry.party_rules.0 in
-      record { name = s.name; listen = s.listen; redirect = s.redirect; path = s.path; names = s.names; scope = s.scope; prompt = s.prompt; age = s.age }
+      record { name = s.name; listen = s.listen; redirect = s.redirect; path = s.path; names = s.names; scope = s.scope; prompt = s.prompt; age = s.age; settings = s.settings }
 
   fits : FitsClient (asker wants) every_type
   fits =
@@ -141,6 +141,7 @@ module _ (wants : Wants) where
         user_rules = s.user_rules;
         client_rules = (client_rules, s.client_rules.1);
         party_rules = (party_rules, s.party_rules.1);
+        settings = record { issuer_https = refl; parties_https = refl; workers = refl };
       }
 
 -- ---- the visitor

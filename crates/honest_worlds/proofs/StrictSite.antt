@@ -29,6 +29,7 @@ keeps p prompt age words seconds before = record {
   scope = before.scope;
   prompt = words;
   age = seconds;
+  settings = before.settings;
 }
 
 shop_fits : FitsClient recent_shop shop_client
@@ -69,4 +70,5 @@ strict_registry =
       user_rules = registry.user_rules;
       client_rules = registry.client_rules;
       party_rules = (keeps shop None (Some 60) refl refl registry.party_rules.0, (keeps news (Some (codes "none")) None refl refl registry.party_rules.1.0, tt));
+      settings = record { issuer_https = refl; parties_https = refl; workers = refl };
     }

@@ -4,7 +4,7 @@ use Rattle.std.specs.List.{list_any, slice_split}
 use Rattle.sso_base.specs.Words.{Text}
 use Rattle.http_reply.proofs.Characters.{both_false}
 use Rattle.html_pages.specs.Escaping.{escaped, is_quote, is_less, is_greater, IsInert}
-use Rattle.html_pages.specs.Documents.{style, head_text, top_text, closing, document}
+use Rattle.html_pages.specs.Documents.{style, head_text, top_text, closing, document, refresh_url, refresh, document_until}
 use Rattle.html_pages.specs.Forms.{form, hidden}
 use Rattle.html_pages.specs.Posting.{Control, control_of, attributes_in, tag_text, posted, form_posted, hidden_posted}
 use Rattle.html_pages.proofs.EscapedTexts.{inert}
@@ -87,9 +87,9 @@ before_heading =
 head_posts_nothing : (heading site rest : Text) → IsInert heading → IsInert site → posted (head_text heading site ++ rest) ≡ posted rest
 unfolding head_text
 head_posts_nothing heading site rest h s =
-    let after_style : Text = codes "</style>\n</head>\n" ++ rest in
+    let after_style : Text = codes "</style>\n" ++ rest in
     let after_site : Text = codes "</title>\n<style>" ++ (style ++ after_style) in
-    ap posted (seven before_heading heading (codes " - ") site (codes "</title>\n<style>") style (codes "</style>\n</head>\n") rest)
+    ap posted (seven before_heading heading (codes " - ") site (codes "</title>\n<style>") style (codes "</style>\n") rest)
     ∙ posted_over heading (codes " - " ++ (site ++ after_site)) h.less
     ∙ posted_over site after_site s.less
     ∙ style_posts_nothing after_style
@@ -98,7 +98,7 @@ top_posts_nothing : (heading site rest : Text) → IsInert heading → IsInert s
 unfolding top_text
 top_posts_nothing heading site rest h s =
     let after_heading : Text = codes "</h1>\n" ++ rest in
-    ap posted (five (codes "<body>\n<main>\n<p class=\"site\">") site (codes "</p>\n<h1>") heading (codes "</h1>\n") rest)
+    ap posted (five (codes "</head>\n<body>\n<main>\n<p class=\"site\">") site (codes "</p>\n<h1>") heading (codes "</h1>\n") rest)
     ∙ posted_over site (codes "</p>\n<h1>" ++ (heading ++ after_heading)) s.less
     ∙ posted_over heading after_heading h.less
 
@@ -108,4 +108,26 @@ document_posts_its_content heading site content =
     let top : Text = top_text (escaped heading) (escaped site) in
     ap posted (three head top content closing)
     ∙ head_posts_nothing (escaped heading) (escaped site) (top ++ (content ++ closing)) (inert heading) (inert site)
+    ∙ top_posts_nothing (escaped heading) (escaped site) (content ++ closing) (inert heading) (inert site)
+
+-- ---- a page that a user agent leaves
+
+abbrev refresh_mark : Text
+refresh_mark = codes "<meta http-equiv=\"refresh\" content=\""
+
+refresh_posts_nothing : (seconds to rest : Text) → list_any is_less seconds ≡ false → list_any is_less to ≡ false → posted (refresh seconds to ++ rest) ≡ posted rest
+refresh_posts_nothing seconds to rest h u =
+    ap posted (three refresh_mark seconds (refresh_url to) rest)
+    ∙ posted_over seconds (refresh_url to ++ rest) h
+    ∙ ap posted (three (codes ";url=") to (codes "\">\n") rest)
+    ∙ posted_over to (codes "\">\n" ++ rest) u
+
+pub document_until_posts_its_content : (seconds to heading site content : Text) → list_any is_less seconds ≡ false → list_any is_less to ≡ false
+    → posted (document_until seconds to heading site content) ≡ posted (content ++ closing)
+document_until_posts_its_content seconds to heading site content h u =
+    let head : Text = head_text (escaped heading) (escaped site) in
+    let top : Text = top_text (escaped heading) (escaped site) in
+    ap posted (four head (refresh seconds to) top content closing)
+    ∙ head_posts_nothing (escaped heading) (escaped site) (refresh seconds to ++ (top ++ (content ++ closing))) (inert heading) (inert site)
+    ∙ refresh_posts_nothing seconds to (top ++ (content ++ closing)) h u
     ∙ top_posts_nothing (escaped heading) (escaped site) (content ++ closing) (inert heading) (inert site)

@@ -49,16 +49,23 @@ head_text heading site =
     ++ site
     ++ codes "</title>\n<style>"
     ++ style
-    ++ codes "</style>\n</head>\n"
+    ++ codes "</style>\n"
 
--- what is seen above the content
+-- the end of the head, and what is seen above the content
 unfoldable pub top_text : Text → Text → Text
 top_text heading site =
-    codes "<body>\n<main>\n<p class=\"site\">"
+    codes "</head>\n<body>\n<main>\n<p class=\"site\">"
     ++ site
     ++ codes "</p>\n<h1>"
     ++ heading
     ++ codes "</h1>\n"
+
+-- after this number of seconds, in decimal, a user agent leaves the page for this URL (HTML Standard, the pragma `refresh`)
+abbrev pub refresh_url : Text → Text
+refresh_url to = codes ";url=" ++ to ++ codes "\">\n"
+
+abbrev pub refresh : Text → Text → Text
+refresh seconds to = codes "<meta http-equiv=\"refresh\" content=\"" ++ seconds ++ refresh_url to
 
 -- the beginning of a page with this heading, of a site with this title
 abbrev pub opening : Text → Text → Text
@@ -70,6 +77,13 @@ closing = codes "</main></body>\n</html>\n"
 -- a page with this heading, of a site with this title; its content is HTML
 abbrev pub document : Text → Text → Text → Text
 document heading site content = opening heading site ++ content ++ closing
+
+-- the same, for a page that a user agent leaves after this number of seconds for this URL
+abbrev pub opening_until : Text → Text → Text → Text → Text
+opening_until seconds to heading site = head_text (escaped heading) (escaped site) ++ refresh seconds to ++ top_text (escaped heading) (escaped site)
+
+abbrev pub document_until : Text → Text → Text → Text → Text → Text
+document_until seconds to heading site content = opening_until seconds to heading site ++ content ++ closing
 
 -- ---- the reply that shows a page, or a line of text if there is no page
 

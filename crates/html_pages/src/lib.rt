@@ -14,8 +14,8 @@ mod page;
 mod showing;
 
 pub use law::{
-    documents_post_their_content, escaped_texts_are_read_as_they_were,
-    forms_are_read_as_they_were_written,
+    documents_post_their_content, documents_that_are_left_post_their_content,
+    escaped_texts_are_read_as_they_were, forms_are_read_as_they_were_written,
 };
 pub use page::Page;
 pub use showing::shown;

@@ -1,6 +1,6 @@
 // Writing a page piece by piece.
 
-ghost use Rattle.std.specs.Prelude.{◌≡◌, ◌++◌, IfOk, OnOk};
+ghost use Rattle.std.specs.Prelude.{◌≡◌, ◌++◌, decimal, IfOk, OnOk};
 ghost use Rattle.html_pages.specs.Escaping.{spelled, escaped};
 ghost use Rattle.html_pages.specs.Documents as spec;
 
@@ -74,6 +74,27 @@ impl Page {
         Ok(page)
     }
 
+    /// The same for a page that a user agent leaves after this number of seconds, for a path below a prefix. Both are HTML.
+    pub fn begin_until(
+        alloc: Global,
+        heading: &str,
+        site: &str,
+        seconds: u32,
+        prefix: &str,
+        path: &str,
+    ) -> Result<Page, NoMemory>
+        ensures { IfOk result (λ p. p ≡ spec.opening_until (decimal seconds) (prefix.now ++ path.now) heading.now site.now) }
+    {
+        let number = seconds.to_string(alloc)?;
+        let mut page = Page {
+            bytes: Vec::new(alloc),
+        };
+        page.push_head(heading, site)?;
+        page.push_refresh(number.as_str(), prefix, path)?;
+        page.push_top(heading, site)?;
+        Ok(page)
+    }
+
     /// Adds HTML, as it is.
     pub fn push(&mut self, markup: &str) -> Result<(), NoMemory>
         ensures { OnOk result (self.new ≡ self.old ++ markup.now) }
@@ -118,14 +139,31 @@ impl Page {
         self.push_text(site)?;
         self.push("</title>\n<style>")?;
         self.push(style())?;
-        self.push("</style>\n</head>\n")
+        self.push("</style>\n")
+    }
+
+    fn push_refresh_url(&mut self, prefix: &str, path: &str) -> Result<(), NoMemory>
+        ensures { OnOk result (self.new ≡ self.old ++ spec.refresh_url (prefix.now ++ path.now)) }
+    {
+        self.push(";url=")?;
+        self.push(prefix)?;
+        self.push(path)?;
+        self.push("\">\n")
+    }
+
+    fn push_refresh(&mut self, seconds: &str, prefix: &str, path: &str) -> Result<(), NoMemory>
+        ensures { OnOk result (self.new ≡ self.old ++ spec.refresh seconds.now (prefix.now ++ path.now)) }
+    {
+        self.push("<meta http-equiv=\"refresh\" content=\"")?;
+        self.push(seconds)?;
+        self.push_refresh_url(prefix, path)
     }
 
     #[tactic(auto, unfolding(crate::specs::Documents::top_text))]
     fn push_top(&mut self, heading: &str, site: &str) -> Result<(), NoMemory>
         ensures { OnOk result (self.new ≡ self.old ++ spec.top_text (escaped heading.now) (escaped site.now)) }
     {
-        self.push("<body>\n<main>\n<p class=\"site\">")?;
+        self.push("</head>\n<body>\n<main>\n<p class=\"site\">")?;
         self.push_text(site)?;
         self.push("</p>\n<h1>")?;
         self.push_text(heading)?;

@@ -2,11 +2,11 @@
 use Rattle.std.proofs.Common.{◌≡◌, true, false, [], ◌∷◌, codes, Some, None, refl}
 use Rattle.sso_base.proofs.OnLiterals.{base64url_on_literals}
 use Rattle.sso_base.proofs.SampleWords.{word}
-use Rattle.http_reply.specs.Cookies.{cookie}
+use Rattle.http_reply.specs.Cookies.{cookie, cookie_name}
 use Rattle.sso_base.specs.declared.http.Kind.TheVariants.{Empty, Plain, Html}
 use Rattle.http_reply.specs.Replies.{html, plain, empty, sent_to}
 use Rattle.http_reply.specs.Told.{is_under, words_named, sets_cookie}
-use Rattle.http_reply.specs.UserAgent.{is_cookie_name, cookie_read, set_cookie}
+use Rattle.http_reply.specs.UserAgent.{is_cookie_name, cookie_read, is_taken, set_cookie}
 
 a_secure_cookie : cookie true (codes "op_s") (word 3) ≡ codes "op_s=AAAAAAAAAAAAAAAAAAAAAAAAAAAAAAAAAAAAAAAAAAM; Path=/; HttpOnly; SameSite=Lax; Secure"
 unfolding base64url_on_literals
@@ -15,6 +15,27 @@ a_secure_cookie = refl
 a_local_cookie : cookie false (codes "op_b") (word 1) ≡ codes "op_b=AAAAAAAAAAAAAAAAAAAAAAAAAAAAAAAAAAAAAAAAAAE; Path=/; HttpOnly; SameSite=Lax"
 unfolding base64url_on_literals
 a_local_cookie = refl
+
+a_name_of_a_host : cookie_name true (codes "op_s") ≡ codes "__Host-op_s"
+a_name_of_a_host = refl
+
+a_plain_name : cookie_name false (codes "op_s") ≡ codes "op_s"
+a_plain_name = refl
+
+not_taken-over_http : is_taken (set_cookie false (codes "__Host-op_s") (word 3)) ≡ false
+not_taken-over_http = refl
+
+not_taken-for_a_domain : is_taken (record { name = codes "__Host-op_s"; value = []; attributes = (codes "Secure", []) ∷ (codes "Path", codes "/") ∷ (codes "Domain", codes "a.b") ∷ [] }) ≡ false
+not_taken-for_a_domain = refl
+
+not_taken-for_one_path : is_taken (record { name = codes "__Host-op_s"; value = []; attributes = (codes "Secure", []) ∷ (codes "Path", codes "/op") ∷ [] }) ≡ false
+not_taken-for_one_path = refl
+
+taken-of_a_host : is_taken (set_cookie true (codes "__Host-op_s") (word 3)) ≡ true
+taken-of_a_host = refl
+
+taken-under_a_plain_name : is_taken (set_cookie false (codes "op_s") (word 3)) ≡ true
+taken-under_a_plain_name = refl
 
 a_name : is_cookie_name (codes "op_b") ≡ true
 a_name = refl

@@ -1,7 +1,16 @@
 -- Cookies that hold words, as a server sets them (RFC 6265, 4.1).
-use Rattle.std.specs.Prelude.{Bool, true, false, [], ◌∷◌, codes}
+use Rattle.std.specs.Prelude.{Bool, true, false, [], ◌∷◌, ◌++◌, codes}
 use Rattle.std.specs.List.{concat}
 use Rattle.sso_base.specs.Words.{Word, Text, word_text}
+
+-- names with this prefix can be set by the host itself only, over https (RFC 6265bis, 4.1.3.2)
+abbrev pub host_prefix : Text
+host_prefix = codes "__Host-"
+
+-- the name under which a cookie is set and read
+abbrev pub cookie_name : Bool → Text → Text
+cookie_name true name = host_prefix ++ name
+cookie_name false name = name
 
 -- a secure cookie is returned over https only
 abbrev pub secure_mark : Bool → Text

@@ -1,9 +1,9 @@
 -- The cookies of a reply, as a user agent reads them.
-use Rattle.std.specs.Prelude.{Bool, false, List, [], ◌∷◌, Option, Some, None}
-use Rattle.std.specs.List.{list_any}
+use Rattle.std.specs.Prelude.{◌≡◌, Bool, true, false, List, [], ◌∷◌, Option, Some, None}
+use Rattle.std.specs.List.{list_any, AllByRecursion}
 use Rattle.std.specs.Str.{bytes_eq}
 use Rattle.sso_base.specs.Words.{Word, Text}
-use Rattle.http_reply.specs.UserAgent.{SetCookie, cookie_read, set_cookie}
+use Rattle.http_reply.specs.UserAgent.{SetCookie, cookie_read, is_taken, set_cookie}
 
 -- a word under the name of its cookie
 abbrev pub Named : Type 0
@@ -24,3 +24,7 @@ is_under name (Some cookie) = bytes_eq cookie.name name
 -- some cookie has this name
 abbrev pub sets_cookie : Text → List Text → Bool
 sets_cookie name cookies = list_any (λ t. is_under name (cookie_read t)) cookies
+
+-- a user agent takes the cookies that hold these words
+abbrev pub AreTaken : Bool → List Named → Type 0
+AreTaken secure words = AllByRecursion (λ (n : Named). is_taken (set_cookie secure n.0 n.1) ≡ true) words

@@ -1,7 +1,10 @@
 -- Cookies as a user agent reads them (RFC 6265, 5.2), and the names that they may have (4.1.1).
 use Rattle.std.specs.Prelude.{ℕ, ◌==◌, nat_lt, ◌&&◌, ◌||◌, not, Bool, true, false, List, [], ◌∷◌, codes, map, Option, Some, None, if◌then◌else◌}
+use Rattle.std.specs.Prelude.{take}
 use Rattle.std.specs.List.{list_any, list_all, slice_split}
+use Rattle.std.specs.Str.{bytes_eq}
 use Rattle.sso_base.specs.Words.{Word, Text, word_text}
+use Rattle.http_reply.specs.Cookies.{host_prefix}
 
 -- ---- names: a token is visible characters without the separators (RFC 2616, 2.2)
 
@@ -80,6 +83,23 @@ parts_read (pair ∷ attributes) =
 
 abbrev pub cookie_read : Text → Option SetCookie
 cookie_read t = parts_read (slice_split is_semicolon t)
+
+-- ---- names that begin with `__Host-` (RFC 6265bis, 4.1.3.2)
+
+abbrev pub is_host_name : Text → Bool
+is_host_name name = bytes_eq (take 7 name) host_prefix
+
+abbrev pub has_attribute : Text → List Attribute → Bool
+has_attribute name attributes = list_any (λ (a : Attribute). bytes_eq a.0 name) attributes
+
+abbrev pub has_path : Text → List Attribute → Bool
+has_path path attributes = list_any (λ (a : Attribute). bytes_eq a.0 (codes "Path") && bytes_eq a.1 path) attributes
+
+-- a user agent takes a cookie with such a name only if it is secure, for every path, and for no domain (RFC 6265bis, 5.6)
+abbrev pub is_taken : SetCookie → Bool
+is_taken cookie =
+    not (is_host_name cookie.name)
+    || (has_attribute (codes "Secure") cookie.attributes && has_path (codes "/") cookie.attributes && not (has_attribute (codes "Domain") cookie.attributes))
 
 -- ---- a cookie that holds a word
 

@@ -3,6 +3,7 @@
 ghost use Rattle.std.specs.Prelude.{◌≡◌, IfOk};
 ghost use Rattle.http_reply.specs.Cookies as spec;
 
+use crate::joining::concatenated;
 use sso_base::{NoMemory, Text, Word};
 use std::alloc::Global;
 
@@ -18,6 +19,18 @@ fn cookie_text(alloc: Global, name: &str, value: &str, mark: &str) -> Result<Tex
 {
     let pieces = [name, "=", value, "; Path=/; HttpOnly; SameSite=Lax", mark];
     Ok(Text::from_string(pieces.concat(alloc)?))
+}
+
+/// The name under which a cookie is set and read: this one, behind the prefix `__Host-` if `host`. A user agent takes a cookie with
+/// that prefix only from the host itself, over https, so no other host of the same site can set one (RFC 6265bis, 4.1.3.2).
+pub fn cookie_name(alloc: Global, host: bool, name: &str) -> Result<Text, NoMemory>
+    ensures { IfOk result (λ t. t ≡ spec.cookie_name host name.now) }
+{
+    if host {
+        concatenated(alloc, "__Host-", name)
+    } else {
+        Text::new(alloc, name)
+    }
 }
 
 /// The value of a `Set-Cookie` field (RFC 6265, 4.1.1) that sets a cookie of this name to the word's text, 43 characters of

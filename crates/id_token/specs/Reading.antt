@@ -1,5 +1,5 @@
 -- The ID Token in a sealed text, or why the text is rejected (OpenID Connect Core 1.0, 2; RFC 7519, 7.2).
-use Rattle.std.specs.Prelude.{ℕ, Bool, true, false, List, Option, Some, None, Result, Ok, Err, codes, if◌then◌else◌}
+use Rattle.std.specs.Prelude.{ℕ, Bool, true, false, List, Option, Some, None, option_and_then, Result, Ok, Err, codes, if◌then◌else◌}
 use Rattle.serde_json.specs.Data.{Members}
 use Rattle.sso_base.specs.Refusals.{and_then, and_then_as, demand}
 use Rattle.claim_set.specs.Kinds.{text_claim, texts_claim, number_claim}
@@ -10,7 +10,7 @@ use Rattle.claim_set.specs.declared.no.ClaimNo.TheVariants.{WrongKind}
 use Rattle.jws_compact.specs.declared.no.JwsNo.TheVariants as jws
 use Rattle.claim_set.specs.declared.no.ClaimNo.TheVariants as claims
 use Rattle.jws_compact.specs.declared.unsealing.Unsealed.{Unsealed}
-use Rattle.jws_compact.specs.Jws.{verdict}
+use Rattle.jws_compact.specs.Jws.{verdict, payload_in}
 use Rattle.id_token.specs.declared.claims.IdClaims.{IdClaims}
 use Rattle.id_token.specs.declared.claims.RawClaims.{RawClaims}
 use Rattle.id_token.specs.declared.no.IdNo.{IdNo}
@@ -80,6 +80,22 @@ id_of ms = and_then_as Claims (raw_in ms) (λ raw. whole raw (without_all id_nam
 -- the ID Token in a sealed text, or the first error that applies
 unfoldable pub id_read : List ℕ → List ℕ → Result IdClaims IdNo
 id_read k t = and_then_as Jws (verdict k t) (λ (o : Unsealed). and_then_as Claims (claims_read o.payload) id_of)
+
+-- ---- the audience of a text that anyone may have written
+
+abbrev pub texts_found : Result (Option (List (List ℕ))) ClaimNo → Option (List (List ℕ))
+texts_found (Ok texts) = texts
+texts_found (Err e) = None
+
+abbrev pub aud_in : Result Members ClaimNo → Option (List (List ℕ))
+aud_in (Ok ms) = texts_found (texts_claim (codes "aud") ms)
+aud_in (Err e) = None
+
+-- the audience that a text names, whether it is sealed or not
+unfoldable pub audience_in : List ℕ → Option (List (List ℕ))
+audience_in t = option_and_then (λ p. aud_in (claims_read p)) (payload_in t)
+
+-- ---- errors of the calls
 
 -- `NoMemory` is wrapped in another error
 abbrev pub hides_memory : IdNo → Bool

@@ -1,6 +1,6 @@
 // Laws about ID Tokens, for the crates above.
 
-ghost use Rattle.std.specs.Prelude.{◌≡◌, ◌↔◌, ℕ, List, Ok, Err, IsOk};
+ghost use Rattle.std.specs.Prelude.{◌≡◌, ◌↔◌, ℕ, List, Some, Ok, Err, IsOk};
 ghost use Rattle.serde_json.specs.Data.{Members};
 ghost use Rattle.sso_base.specs.Refusals.{first_refusal};
 ghost use Rattle.claim_set.specs.declared.no.ClaimNo.{ClaimNo};
@@ -11,7 +11,7 @@ ghost use Rattle.jws_compact.specs.Jws.{Sealed, Opens, verdict};
 ghost use Rattle.id_token.specs.declared.claims.IdClaims.{IdClaims};
 ghost use Rattle.id_token.specs.declared.rules.IdRules.{IdRules};
 ghost use Rattle.id_token.specs.declared.no.IdNo.TheVariants as no;
-ghost use Rattle.id_token.specs.Reading.{id_read};
+ghost use Rattle.id_token.specs.Reading.{id_read, audience_in};
 ghost use Rattle.id_token.specs.Sealing.{id_text, IsSealable};
 ghost use Rattle.id_token.specs.Token.{IsIdToken, id_refusals};
 ghost use Rattle.id_token.specs.Judging.{IsGoodIdToken, id_judged};
@@ -38,6 +38,11 @@ pub fn unsealed_texts_are_refused()
     ensures unsealed { (k t : List ℕ) → ((e : JwsNo) × (id_read k t ≡ Err (no.Jws e))) ↔ ((u : Unsealed) → ¬ Opens k t u) }
     ensures reason { (k t : List ℕ) (e : JwsNo) → (id_read k t ≡ Err (no.Jws e)) ↔ (verdict k t ≡ Err e) }
     ensures sealed { (k t : List ℕ) (x : IdClaims) → id_read k t ≡ Ok x → (u : Unsealed) × Opens k t u }
+{}
+
+/// A text that is read as an ID Token, under some key, names the audience of its claims, whichever key that is.
+pub fn read_tokens_name_their_audience()
+    ensures { (k t : List ℕ) (x : IdClaims) → id_read k t ≡ Ok x → audience_in t ≡ Some x.aud }
 {}
 
 /// The claim set of an ID Token fits if the claims are values of their types.

@@ -114,6 +114,10 @@ is_hs256 d = unwrap_or (option_map (λ s. bytes_eq s (codes "HS256")) (text_memb
 unfoldable pub has_crit : Data → Bool
 has_crit d = is_some (get (codes "crit") d)
 
+-- the payload that a text has, whether it is sealed or not
+unfoldable pub payload_in : List ℕ → Option (List ℕ)
+payload_in t = if nat_lt 8192 (length t) then None else option_and_then (λ s. unb64u s.1) (three_parts t)
+
 -- the contents of a text under a key, or why it is rejected
 unfoldable pub verdict : List ℕ → List ℕ → Result Unsealed JwsNo
 verdict k t =

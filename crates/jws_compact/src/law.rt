@@ -1,10 +1,10 @@
 // Laws about sealed texts, for the crates above.
 
-ghost use Rattle.std.specs.Prelude.{◌≡◌, ◌≤◌, ◌==◌, ℕ, List, length, is_some, Ok};
+ghost use Rattle.std.specs.Prelude.{◌≡◌, ◌≤◌, ◌==◌, ℕ, List, length, is_some, Some, Ok};
 ghost use Rattle.base64.specs.GeneralPurpose.{IsBytes};
 ghost use Rattle.jws_compact.specs.declared.sealing.Typ.{Typ};
 ghost use Rattle.jws_compact.specs.declared.unsealing.Unsealed.{Unsealed};
-ghost use Rattle.jws_compact.specs.Jws.{dots, three_parts, header_bytes, Sealed, seal_text, opened, written, Opens, verdict};
+ghost use Rattle.jws_compact.specs.Jws.{dots, three_parts, header_bytes, Sealed, seal_text, opened, written, Opens, payload_in, verdict};
 
 /// A text has three parts if and only if it has two dots.
 pub fn texts_have_two_dots()
@@ -17,6 +17,11 @@ pub fn sealed_texts_open()
     ensures sealed { (k t : List ℕ) (u : Unsealed) → verdict k t ≡ Ok u → Opens k t u }
     ensures header_is_determined { (k l h g p q t : List ℕ) → Sealed k h p t → Sealed l g q t → h ≡ g }
     ensures payload_is_determined { (k l h g p q t : List ℕ) → Sealed k h p t → Sealed l g q t → p ≡ q }
+{}
+
+/// A text that is accepted under some key has the payload that it is accepted with, whichever key that is.
+pub fn accepted_texts_have_their_payload()
+    ensures { (k t : List ℕ) (u : Unsealed) → verdict k t ≡ Ok u → payload_in t ≡ Some u.payload }
 {}
 
 /// Each text that is written is sealed. Reading it returns the payload and the `typ` of the kind.

@@ -8,7 +8,7 @@
 //! | Module | What it has |
 //! |---|---|
 //! | `sealing` | [`seal`] writes a sealed text of a kind, [`Typ`] |
-//! | `unsealing` | [`unseal`] accepts exactly the sealed texts, and returns an [`Unsealed`] |
+//! | `unsealing` | [`unseal`] accepts exactly the sealed texts, and returns an [`Unsealed`]; [`payload_of`] reads a text of anyone |
 //! | `no` | [`JwsNo`], why a text is rejected |
 //! | `parts` | splitting a text at its dots, and decoding the parts |
 //! | `header` | reading a header's object |
@@ -22,7 +22,9 @@ mod parts;
 mod sealing;
 mod unsealing;
 
-pub use law::{sealed_texts_open, texts_have_two_dots, written_texts_open};
+pub use law::{
+    accepted_texts_have_their_payload, sealed_texts_open, texts_have_two_dots, written_texts_open,
+};
 pub use no::JwsNo;
 pub use sealing::{Typ, seal};
-pub use unsealing::{Unsealed, unseal};
+pub use unsealing::{Unsealed, payload_of, unseal};

@@ -1,12 +1,12 @@
-// Unsealing: reading a text, or rejecting it for the first reason that applies.
+// Unsealing: reading a text, or rejecting it for the first reason that applies; and what a text says, whoever sealed it.
 
 ghost use Rattle.std.specs.Prelude.{◌≡◌, ◌⊎◌, ℕ, List, Ok, Err, IfOk, IfErr};
-ghost use Rattle.jws_compact.specs.Jws.{Sealed, Opens, opened, verdict};
+ghost use Rattle.jws_compact.specs.Jws.{Sealed, Opens, opened, verdict, payload_in};
 
 use crate::header::header_of;
 use crate::no::JwsNo;
 use crate::parts::{in_three_parts, signed_part, spelled, spelled_mac};
-use sso_base::{Blob, Text};
+use sso_base::{Blob, NoMemory, Text};
 use std::alloc::Global;
 
 // The greatest length of a sealed text, in bytes.
@@ -73,4 +73,22 @@ pub fn unseal(alloc: Global, key: &[u8], text: &[u8]) -> Result<Unsealed, JwsNo>
     ensures refuses { IfErr result (λ e. (e ≡ JwsNo.NoMemory) ⊎ (verdict key.now text.now ≡ Err e)) }
 {
     judged(alloc, key, text)
+}
+
+/// The payload that a text has, whether it is sealed or not: the second of its three parts, decoded. A text that [`unseal`]
+/// accepts has the payload that it returns. Nothing is known about who wrote it.
+#[tactic(auto, unfolding(crate::specs::Jws::payload_in))]
+pub fn payload_of(alloc: Global, text: &[u8]) -> Result<Option<Blob>, NoMemory>
+    ensures { IfOk result (λ p. p ≡ payload_in text.now) }
+{
+    if text.len() > MOST {
+        return Ok(None);
+    }
+    let Some((_, payload, _)) = in_three_parts(text) else {
+        return Ok(None);
+    };
+    match spelled(alloc, payload)? {
+        Some(bytes) => Ok(Some(Blob::from_vec(bytes))),
+        None => Ok(None),
+    }
 }

@@ -15,7 +15,7 @@ use Rattle.client_registry.specs.declared.records.Party.{Party}
 use Rattle.client_registry.specs.declared.records.Provider.{Provider}
 use Rattle.client_registry.specs.Configuration.{Configuration}
 use Rattle.client_registry.specs.Numbers.{no_party, no_client, party_row, party_client}
-use Rattle.client_registry.specs.Records.{provider_of, urls_of}
+use Rattle.client_registry.specs.Records.{provider_of, urls_of, usual_settings, usual_party_settings}
 use Rattle.client_registry.specs.Registered.{AllHoldClaims, IsClient, IsParty, FitsClient, IsRegistry}
 use Rattle.request_params.specs.Reading as form
 use Rattle.request_params.specs.Printing.{request_form}
@@ -88,6 +88,7 @@ shop_party =
       userinfo = false;
       signed = false;
       redirect_url = url_at (codes "a.b");
+      settings = usual_party_settings;
     }
 
 abbrev pub mail_party : Party
@@ -104,6 +105,7 @@ mail_party =
       userinfo = false;
       signed = true;
       redirect_url = url_at (codes "c.d");
+      settings = usual_party_settings;
     }
 
 abbrev pub small : Configuration
@@ -120,6 +122,7 @@ small =
       lasting = false;
       full_pages = false;
       title = [];
+      settings = usual_settings;
     }
 
 shop_is_client : IsClient shop
@@ -132,11 +135,11 @@ mail_is_client = record { id = refl; secret = refl; long_secret = omega arith; o
 
 shop_is_party : IsParty shop_party
 unfolding url_on_literals parts_of
-shop_is_party = record { name = refl; listen = refl; redirect = refl; path = refl; names = refl; scope = refl; prompt = refl; age = refl }
+shop_is_party = record { name = refl; listen = refl; redirect = refl; path = refl; names = refl; scope = refl; prompt = refl; age = refl; settings = record { workers = refl } }
 
 mail_is_party : IsParty mail_party
 unfolding url_on_literals parts_of
-mail_is_party = record { name = refl; listen = refl; redirect = refl; path = refl; names = refl; scope = refl; prompt = refl; age = refl }
+mail_is_party = record { name = refl; listen = refl; redirect = refl; path = refl; names = refl; scope = refl; prompt = refl; age = refl; settings = record { workers = refl } }
 
 shop_fits : FitsClient shop_party shop
 shop_fits = record { redirect = refl; logout = refl; logout_of = tt; number = 0; types = refl; has_type = refl }
@@ -179,6 +182,7 @@ small_registry =
       user_rules = tt;
       client_rules = (shop_is_client, (mail_is_client, tt));
       party_rules = (shop_is_party, (mail_is_party, tt));
+      settings = record { issuer_https = refl; parties_https = refl; workers = refl };
     }
 
 -- ---- rows

@@ -8,7 +8,7 @@
 //! | Module | Its calls |
 //! |---|---|
 //! | `registries` | the table of registries: |
-//! | `registries::configurations` | `registry`, `version`, `secrets`, `titles`, `file`, `users` and `rows` read configurations |
+//! | `registries::configurations` | `registry`, `version`, `secrets`, `titles`, `settings`, `file`, `users` and `rows` read configurations |
 //! | `registries::registered` | `provider`, `find`, `row` and `subject` query the sample's registry |
 //! | `registries::discovery` | `document`, `discovery` and `less` |
 //! | `registries::sample` | none; the configuration of the other cases, and named texts |

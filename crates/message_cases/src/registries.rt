@@ -32,6 +32,7 @@ impl Cases for RegistryCases {
             ["version", version, old, new] => configurations::version(alloc, version, old, new),
             ["secrets", version, old, new] => configurations::secrets(alloc, version, old, new),
             ["titles", version, old, new] => configurations::titles(alloc, version, old, new),
+            ["settings", version, old, new] => configurations::settings(alloc, version, old, new),
             ["file", text] => configurations::file(alloc, text),
             ["users", count, text] => configurations::users(alloc, count, text),
             ["rows", users, clients, parties] => {

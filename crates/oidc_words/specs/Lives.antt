@@ -8,6 +8,10 @@ use Rattle.sso_base.specs.Words.{Text}
 abbrev pub turn_life : ℕ
 turn_life = 600
 
+-- a question: a request to sign out that is waiting for the user (OpenID Connect RP-Initiated Logout 1.0, 2)
+abbrev pub question_life : ℕ
+question_life = 600
+
 -- a session, from its last login
 abbrev pub session_life : ℕ
 session_life = 43200
@@ -27,6 +31,10 @@ access_life = 3600
 -- its `expires_in` (RFC 6749, 4.2.2)
 abbrev pub access_life_text : Text
 access_life_text = codes "3600"
+
+-- a family of refresh tokens: 30 days (OpenID Connect Core 1.0, 11)
+abbrev pub family_life : ℕ
+family_life = 2592000
 
 -- an ID Token, from `iat` to `exp` (OpenID Connect Core 1.0, 2)
 abbrev pub id_token_life : ℕ

@@ -3,6 +3,9 @@
 /// How many seconds a turn lives: an authorization request that is waiting for the user.
 pub const TURN_LIFE: u32 = 600;
 
+/// How many seconds a question lives: a request to sign out that is waiting for the user (OpenID Connect RP-Initiated Logout 1.0, 2).
+pub const QUESTION_LIFE: u32 = 600;
+
 /// How many seconds a session of the provider lives from its last login.
 pub const SESSION_LIFE: u32 = 43_200;
 
@@ -17,6 +20,9 @@ pub const ACCESS_LIFE: u32 = 3600;
 
 /// `expires_in` of an access token: its life in decimal (RFC 6749, 4.2.2).
 pub const EXPIRES_IN: &str = "3600";
+
+/// How many seconds a family of refresh tokens lives: 30 days (OpenID Connect Core 1.0, 11).
+pub const FAMILY_LIFE: u32 = 2_592_000;
 
 /// How many seconds an ID Token is valid, from its `iat` on (OpenID Connect Core 1.0, 2).
 pub const ID_TOKEN_LIFE: u64 = 300;

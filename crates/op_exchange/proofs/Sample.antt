@@ -6,6 +6,7 @@ use Rattle.client_registry.specs.declared.records.User.{User}
 use Rattle.client_registry.specs.declared.records.Client.{Client}
 use Rattle.client_registry.specs.Configuration.{Configuration}
 pub use Rattle.client_registry.proofs.SampleRegistry.{op, only_code}
+use Rattle.client_registry.specs.Records.{usual_settings}
 use Rattle.oidc_words.specs.declared.scopes.Scopes.{Scopes}
 use Rattle.auth_request.specs.declared.wish.Wish.{Wish}
 
@@ -50,6 +51,7 @@ sample =
       lasting = false;
       full_pages = false;
       title = [];
+      settings = usual_settings;
     }
 
 abbrev pub profile_scopes : Scopes

@@ -15,7 +15,7 @@ use Rattle.client_registry.specs.declared.records.User.{User}
 use Rattle.client_registry.specs.declared.records.Client.{Client}
 use Rattle.oidc_words.specs.declared.scopes.Scopes.{Scopes}
 use Rattle.client_registry.specs.Configuration.{Configuration}
-use Rattle.client_registry.specs.Records.{provider_of, urls_of}
+use Rattle.client_registry.specs.Records.{provider_of, urls_of, usual_settings}
 use Rattle.client_registry.specs.Registered.{HoldsClaims, AllHoldClaims, IsUser, IsClient, IsRegistry}
 use Rattle.client_registry.specs.ClaimKinds.{AreKnown}
 use Rattle.client_registry.proofs.KnownClaims.{known_put, known_none}
@@ -69,6 +69,7 @@ small =
       lasting = false;
       full_pages = false;
       title = [];
+      settings = usual_settings;
     }
 
 pub named_fit : ClaimsFit named
@@ -128,6 +129,7 @@ small_registry =
       user_rules = (alice_is_user, tt);
       client_rules = (shop_is_client, tt);
       party_rules = tt;
+      settings = record { issuer_https = refl; parties_https = refl; workers = refl };
     }
 
 -- ---- a user who logged in

@@ -1,5 +1,5 @@
 -- Each prepared ask, by what was read for it.
-use Rattle.std.proofs.Common.{◌≡◌, ◌⊎◌, inl, inr, ℕ, List, Bool, true, false, cond, Option, Some, None, Result, Ok, Err, refl, sym, ◌∙◌, subst}
+use Rattle.std.proofs.Common.{◌≡◌, ◌⊎◌, inl, inr, ℕ, List, Bool, true, false, cond, Option, Some, None, Result, Ok, Err, refl, sym, ap, ◌∙◌, subst}
 use Rattle.std.specs.Str.{bytes_eq}
 use Rattle.sso_base.specs.Words.{Word, Text, word_of_text}
 use Rattle.sso_base.specs.declared.http.Ask.{Ask}
@@ -15,7 +15,7 @@ use Rattle.op_exchange.specs.declared.ask.OpAsk.TheVariants as ask
 use Rattle.op_exchange.specs.Fields.{turn_field, user_field, password_field, agree_field, agree_value}
 use Rattle.op_request.specs.declared.routes.Endpoint.{Endpoint}
 use Rattle.op_request.specs.declared.routes.Endpoint.TheVariants as endpoint
-use Rattle.op_request.specs.Routes.{endpoint_asked}
+use Rattle.op_request.specs.Routes.{endpoint_asked, is_login_endpoint, is_login}
 use Rattle.op_request.specs.PostedForms.{login_names, consent_names, fields_of, repeats_one, field}
 use Rattle.op_request.specs.Prepared.{judged, signed_user, authorization_asked, asked_at, prepared}
 use Rattle.op_request.specs.Requests.{own_endpoint, HasCookies}
@@ -152,3 +152,9 @@ module _ (c : Configuration) (request : Ask) where
   pub own_asked : (e : Endpoint) → own_endpoint (prepared c request) ≡ Some e → endpoint_asked c.prefix request ≡ Some e
   unfolding prepared
   own_asked e h = own_at (endpoint_asked c.prefix request) e h
+
+-- a request that was read as a login posts the login form
+pub login_told : (c : Configuration) (request : Ask) (turn : Option Word) (signed : Option ℕ) (browser session : Option Word)
+    → prepared c request ≡ ask.Login turn signed browser session → is_login c.prefix request ≡ true
+unfolding is_login
+login_told c request turn signed browser session h = ap is_login_endpoint (led_to c request (ask.Login turn signed browser session) h).asked

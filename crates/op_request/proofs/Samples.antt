@@ -32,6 +32,7 @@ use Rattle.op_exchange.specs.declared.ask.OpAsk.TheVariants as ask
 use Rattle.op_request.specs.declared.routes.Endpoint.TheVariants as endpoint
 use Rattle.op_request.specs.PostedForms.{login_names, fields_of, repeats_one}
 use Rattle.op_request.specs.Prepared.{prepared}
+use Rattle.op_request.specs.Routes.{is_login}
 use Rattle.op_request.specs.Requests.{IsTo, ShowsPassword, IsTurn, RepeatsAName, IsGranted}
 use Rattle.op_request.proofs.Routing.{asked_to}
 use Rattle.op_request.proofs.RepeatedNames.{repeated_twice, twice_repeats, not_here_to_none}
@@ -57,6 +58,18 @@ abbrev posted : Text → Text → Ask
 posted path form = asked_by Post path [] (Some form)
 
 -- ---- paths
+
+told-a_login : is_login (codes "/op") (posted (codes "/op/login") []) ≡ true
+unfolding is_login
+told-a_login = refl
+
+told-no_login_at_the_token_endpoint : is_login (codes "/op") (posted (codes "/op/token") []) ≡ false
+unfolding is_login
+told-no_login_at_the_token_endpoint = refl
+
+told-no_login_without_a_form : is_login (codes "/op") (got (codes "/op/login") []) ≡ false
+unfolding is_login
+told-no_login_without_a_form = refl
 
 metadata-got : prepared here (got (codes "/op/.well-known/openid-configuration") []) ≡ ask.Metadata
 unfolding prepared

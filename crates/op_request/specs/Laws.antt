@@ -20,6 +20,7 @@ use Rattle.op_exchange.specs.Fields.{turn_field, agree_field, agree_value}
 use Rattle.op_request.specs.declared.routes.Endpoint.TheVariants as endpoint
 use Rattle.op_request.specs.PostedForms.{login_names, fields_of, repeats_one, field}
 use Rattle.op_request.specs.Prepared.{prepared}
+use Rattle.op_request.specs.Routes.{is_login}
 use Rattle.op_request.specs.Requests.{IsTo, ShowsPassword, IsTurn, IsWhole, IsGranted}
 
 -- ---- forms
@@ -35,6 +36,11 @@ ShownPasswordsSignLogins =
     → repeats_one login_names (fields_of request.body) ≡ false → ShowsPassword c (fields_of request.body) n
     → prepared c request
     ≡ ask.Login (word_of_text (field turn_field (fields_of request.body))) (Some n) request.first request.second
+
+abbrev pub LoginsAreToldByTheirPath : Type 0
+LoginsAreToldByTheirPath =
+    (c : Configuration) (request : Ask) (turn : Option Word) (signed : Option ℕ) (browser session : Option Word)
+    → prepared c request ≡ ask.Login turn signed browser session → is_login c.prefix request ≡ true
 
 abbrev pub LoginFormsHaveTheirTurn : Type 0
 LoginFormsHaveTheirTurn =

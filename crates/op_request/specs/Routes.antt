@@ -1,6 +1,6 @@
 -- The endpoint of a request to the provider, by its method and its path. The paths are below the path of the issuer (OpenID
 -- Connect Discovery 1.0, 4).
-use Rattle.std.specs.Prelude.{List, [], ◌∷◌, length, take, drop, Option, Some, None, option_and_then, if◌then◌else◌}
+use Rattle.std.specs.Prelude.{Bool, true, false, List, [], ◌∷◌, length, take, drop, Option, Some, None, option_and_then, if◌then◌else◌}
 use Rattle.std.specs.Str.{bytes_eq}
 use Rattle.sso_base.specs.Words.{Text}
 use Rattle.sso_base.specs.declared.http.Method.{Method}
@@ -41,3 +41,13 @@ routes_of Other = []
 -- the endpoint of a request, if the provider's paths are below this prefix
 abbrev pub endpoint_asked : Text → Ask → Option Endpoint
 endpoint_asked prefix request = option_and_then (endpoint_of (routes_of request.method)) (below prefix request.path)
+
+-- ---- the login, whose reading proves a password
+
+abbrev pub is_login_endpoint : Option Endpoint → Bool
+is_login_endpoint (Some Login) = true
+is_login_endpoint other = false
+
+-- a request posts the login form
+unfoldable pub is_login : Text → Ask → Bool
+is_login prefix request = is_login_endpoint (endpoint_asked prefix request)

@@ -9,7 +9,8 @@ ghost use Rattle.op_request.specs.declared.routes.Endpoint.{Endpoint};
 ghost use Rattle.op_exchange.specs.Asks.{is_prepared};
 ghost use Rattle.op_request.specs.Prepared.{prepared};
 ghost use Rattle.op_request.specs.Requests.{IsTo, own_endpoint, RepeatsAName, HasCookies};
-ghost use Rattle.op_request.specs.Laws.{SignedLoginsShowAPassword, ShownPasswordsSignLogins, LoginFormsHaveTheirTurn, ConsentFormsHaveTheirTurn};
+ghost use Rattle.op_request.specs.Laws.{SignedLoginsShowAPassword, ShownPasswordsSignLogins, LoginsAreToldByTheirPath};
+ghost use Rattle.op_request.specs.Laws.{LoginFormsHaveTheirTurn, ConsentFormsHaveTheirTurn};
 ghost use Rattle.op_request.specs.Laws.{AgreementIsInTheForm, GrantedWishesAreJudged, WholeRequestsAreJudged, JudgedWishesAreGranted};
 ghost use Rattle.op_request.specs.Laws.{RequestsWithBadObjectsAreJudged};
 
@@ -28,10 +29,12 @@ pub fn repeated_names_are_refused()
     ensures cause { (c : Configuration) (request : Ask) → prepared c request ≡ ask.Twice → RepeatsAName c request }
 {}
 
-/// A login is signed as a user if and only if its form has that user's id and a password whose proof is the user's.
+/// A login is signed as a user if and only if its form has that user's id and a password whose proof is the user's. A request is known to
+/// be a login before it is read.
 pub fn logins_are_signed_by_passwords()
     ensures shows { SignedLoginsShowAPassword }
     ensures signed { ShownPasswordsSignLogins }
+    ensures told { LoginsAreToldByTheirPath }
 {}
 
 /// The turn of a login or of a consent is the word whose text the form's `turn` is. A consent is given if and only if the

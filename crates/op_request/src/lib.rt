@@ -5,7 +5,7 @@
 //! |---|---|
 //! | `prepare` | [`prepare_op`] reads a request |
 //! | `scopes` | [`asks_for_scope`], whether an authorization request has a word in its scope |
-//! | `routes` | the endpoint of a request |
+//! | `routes` | the endpoint of a request, and [`is_login`], whether it posts the login form |
 //! | `posted_forms` | the fields of the forms that the provider's own pages post |
 //! | `law` | laws about the values that requests produce, for the crates above |
 #![tactic(auto)]
@@ -22,4 +22,5 @@ pub use law::{
     requests_are_told_by_method_and_path, wishes_are_granted_by_the_judgement,
 };
 pub use prepare::prepare_op;
+pub use routes::is_login;
 pub use scopes::asks_for_scope;

@@ -4,6 +4,7 @@ ghost use Rattle.std.specs.Prelude.{◌≡◌, option_map};
 ghost use Rattle.oidc_words.specs.Routes.{endpoint_of};
 ghost use Rattle.op_request.specs.Routes as spec;
 
+use client_registry::Registry;
 use oidc_words::{
     AUTHORIZE_PATH, CONSENT_PATH, KEYS_PATH, LOGIN_PATH, METADATA_PATH, SIGNOUT_PATH, TOKEN_PATH,
     USERINFO_PATH,
@@ -84,5 +85,17 @@ pub(crate) fn endpoint_asked(prefix: &Text, ask: &Ask) -> Option<Endpoint>
         Method::Get => got(path),
         Method::Post => posted_to(path),
         Method::Other => None,
+    }
+}
+
+/// Whether a request to the provider of this registry posts the login form. Reading it proves a password, which takes as many rounds as
+/// the user's proof has (RFC 8018, 5.2). No other request is read as a login.
+#[tactic(auto, unfolding(crate::specs::Routes::is_login))]
+pub fn is_login(registry: &Registry, ask: &Ask) -> bool
+    ensures { result ≡ spec.is_login registry.now.prefix ask.now }
+{
+    match endpoint_asked(registry.prefix(), ask) {
+        Some(Endpoint::Login) => true,
+        _ => false,
     }
 }

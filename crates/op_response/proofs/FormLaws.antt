@@ -1,6 +1,8 @@
 -- The forms in the login page and the consent page, plain and full.
 use Rattle.std.proofs.Common.{◌≡◌, ℕ, Bool, true, false, List, [], ◌∷◌, ◌++◌, codes, Option, sym, ap, ◌∙◌, subst, append_assoc}
+use Rattle.std.specs.Prelude.{decimal}
 use Rattle.std.specs.Str.Iter.{HasSubslice}
+use Rattle.oidc_words.specs.Lives.{turn_life}
 use Rattle.sso_base.specs.Words.{Word, Text, word_text}
 use Rattle.client_registry.specs.Configuration.{Configuration}
 use Rattle.oidc_words.specs.Paths.{login_path, consent_path}
@@ -9,7 +11,7 @@ use Rattle.op_exchange.specs.Fields.{turn_field}
 use Rattle.op_exchange.specs.declared.reply.OpReply.TheVariants as reply
 use Rattle.html_pages.specs.Documents.{document}
 use Rattle.html_pages.specs.Forms.{form, hidden}
-use Rattle.html_pages.proofs.Slices.{in_first, in_second, in_document}
+use Rattle.html_pages.proofs.Slices.{in_first, in_second, in_document, in_document_until}
 use Rattle.op_response.specs.Pages.{again_note, login_text, consent_text, consent_page}
 use Rattle.op_response.specs.FullPages.{again_alert, login_content, asked_for, agree_form, agree_buttons, other_form, consent_content}
 use Rattle.op_response.specs.FullPages as full
@@ -97,7 +99,7 @@ module _ (site prefix : Text) (turn : Word) (again : Bool) where
   login_form_by false = form_in login_head form_mark prefix (login_path ++ quote_mark) input_mark (word_text turn) quote_mark (plain_fields again)
   login_form_by true =
       let s : Text = posted_to prefix login_path in
-      in_document (codes "Sign in") site (login_content prefix (word_text turn) again) s
+      in_document_until (decimal turn_life) (prefix ++ login_path) (codes "Sign in") site (login_content prefix (word_text turn) again) s
       (in_first ((alert_part ++ form_part) ++ turn_part) full.login_fields s
       (in_first (alert_part ++ form_part) turn_part s
       (in_second alert_part form_part s (form_there prefix login_path))))
@@ -107,7 +109,7 @@ module _ (site prefix : Text) (turn : Word) (again : Bool) where
   login_turn_by false = field_in login_head form_mark prefix (login_path ++ quote_mark) input_mark (word_text turn) quote_mark (plain_fields again)
   login_turn_by true =
       let s : Text = turn_input turn in
-      in_document (codes "Sign in") site (login_content prefix (word_text turn) again) s
+      in_document_until (decimal turn_life) (prefix ++ login_path) (codes "Sign in") site (login_content prefix (word_text turn) again) s
       (in_first ((alert_part ++ form_part) ++ turn_part) full.login_fields s
       (in_second (alert_part ++ form_part) turn_part s (turn_there turn)))
 

@@ -1,5 +1,7 @@
 -- Full pages post what plain ones post.
 use Rattle.std.proofs.Common.{◌≡◌, ℕ, Bool, true, false, [], ◌∷◌, ◌++◌, codes, Option, refl, sym, ap, ◌∙◌, arith, append_assoc}
+use Rattle.std.specs.Prelude.{decimal}
+use Rattle.std.specs.Fmt.{digits}
 use Rattle.std.specs.List.{list_any}
 use Rattle.std.proofs.lemmas.Bool.Decides.{nat_tests}
 use Rattle.std.proofs.lemmas.List.Folds.{list_any-append}
@@ -8,6 +10,7 @@ use Rattle.http_reply.proofs.Characters.{both_false, or_none, not_in_word_text}
 use Rattle.client_registry.specs.Configuration.{Configuration}
 use Rattle.client_registry.specs.Numbers.{client_id}
 use Rattle.client_registry.specs.Registered.{IsRegistry}
+use Rattle.oidc_words.specs.Lives.{turn_life}
 use Rattle.oidc_words.specs.Paths.{login_path, consent_path, signout_path}
 use Rattle.oidc_words.specs.declared.scopes.Scopes.{Scopes}
 use Rattle.oidc_words.specs.Scopes.{scope_text}
@@ -18,7 +21,7 @@ use Rattle.html_pages.specs.Documents.{closing}
 use Rattle.html_pages.specs.Forms.{form, hidden}
 use Rattle.html_pages.specs.Posting.{posted, form_posted}
 use Rattle.html_pages.proofs.EscapedTexts.{inert}
-use Rattle.html_pages.proofs.PostedTags.{three, four, five, posted_over, form_at, hidden_at, form_read, hidden_read, document_posts_its_content}
+use Rattle.html_pages.proofs.PostedTags.{three, four, five, posted_over, form_at, hidden_at, form_read, hidden_read, document_posts_its_content, document_until_posts_its_content}
 use Rattle.op_response.specs.Told.{is_mark, has_mark}
 use Rattle.op_response.specs.Pages.{again_note, login_text, login_page, consent_text, consent_page}
 use Rattle.op_response.specs.FullPages.{again_alert, login_fields, login_content, full_login_page, item, scope_items, asked_for, agree_form, agree_buttons, other_form, other_button, consent_content, full_consent_page}
@@ -29,7 +32,7 @@ use Rattle.op_response.proofs.ScopeTexts.{are_plain}
 
 -- ---- texts that end no value
 
-both_inert : (x y : Text) → IsInert x → IsInert y → IsInert (x ++ y)
+pub both_inert : (x y : Text) → IsInert x → IsInert y → IsInert (x ++ y)
 both_inert x y h k =
     record {
       quote = list_any-append is_quote x y ∙ or_none (list_any is_quote x) (list_any is_quote y) h.quote k.quote;
@@ -49,7 +52,7 @@ signout_path_inert = record { quote = refl; less = refl; greater = refl }
 turn_field_inert : IsInert turn_field
 turn_field_inert = record { quote = refl; less = refl; greater = refl }
 
-word_inert : (w : Word) → IsInert (word_text w)
+pub word_inert : (w : Word) → IsInert (word_text w)
 word_inert w = record { quote = not_in_word_text is_quote refl refl w; less = not_in_word_text is_less refl refl w; greater = not_in_word_text is_greater refl refl w }
 
 quote_is_mark : (b : ℕ) → is_mark b ≡ false → is_quote b ≡ false
@@ -76,12 +79,17 @@ alert_posts_nothing : (again : Bool) (rest : Text) → posted (again_alert again
 alert_posts_nothing true rest = refl
 alert_posts_nothing false rest = refl
 
+life_posts_nothing : list_any is_less (decimal turn_life) ≡ false
+unfolding digits
+life_posts_nothing = refl
+
 full_login : (site prefix turn : Text) (again : Bool) → IsInert prefix → IsInert turn → posted (full_login_page site prefix turn again) ≡ login_posted prefix turn
 unfolding login_fields
 full_login site prefix turn again p h =
     let action : Text = prefix ++ login_path in
     let after : Text = login_fields ++ closing in
-    document_posts_its_content (codes "Sign in") site (login_content prefix turn again)
+    document_until_posts_its_content (decimal turn_life) action (codes "Sign in") site (login_content prefix turn again) life_posts_nothing
+    (both_inert prefix login_path p login_path_inert).less
     ∙ ap posted (four (again_alert again) (form action) (hidden turn_field turn) login_fields closing)
     ∙ alert_posts_nothing again (form action ++ (hidden turn_field turn ++ after))
     ∙ form_read action (hidden turn_field turn ++ after) (both_inert prefix login_path p login_path_inert)

@@ -20,7 +20,7 @@ use Rattle.op_exchange.specs.declared.reply.OpReply.TheVariants as reply
 use Rattle.op_exchange.specs.Replied.{ends_turn}
 use Rattle.html_pages.proofs.ShownReplies.{line_if_plain, never_empty}
 use Rattle.op_response.specs.Lines.{page_word}
-use Rattle.op_response.specs.FullPages.{error_line, error_page, signed_out_page}
+use Rattle.op_response.specs.FullPages.{error_line, error_page, signed_out_page, table_page, missing_page}
 use Rattle.op_response.specs.Telling.{http_of}
 use Rattle.op_response.specs.Told.{is_token_response}
 
@@ -107,8 +107,8 @@ pub plain_is_a_line : (c : Configuration) (r : OpReply) → (http_of c r).kind �
 unfolding http_of
 plain_is_a_line c (reply.ErrorPage why) e = (error_line why, line_if_plain (error_page c.full_pages c.title why) (error_line why) e, error_is_a_line why)
 plain_is_a_line c (reply.SignedOut messages) e = (codes "signed out", line_if_plain (signed_out_page c.full_pages c.title) (codes "signed out") e, refl)
-plain_is_a_line c reply.NotHere e = (codes "not here", refl, refl)
-plain_is_a_line c reply.Full e = (codes "full", refl, refl)
+plain_is_a_line c reply.NotHere e = (codes "not here", line_if_plain (missing_page c.full_pages c.title) (codes "not here") e, refl)
+plain_is_a_line c reply.Full e = (codes "full", line_if_plain (table_page c.full_pages c.title) (codes "full") e, refl)
 plain_is_a_line c (reply.TokenRefused InvalidClient) e = absurd (true≢false (sym (ap is_plain e)))
 plain_is_a_line c (reply.TokenRefused other) e = absurd (true≢false (sym (ap is_plain e)))
 plain_is_a_line c other e = absurd (true≢false (sym (ap is_plain e)))
@@ -120,6 +120,8 @@ empty_has_no_body c (reply.Refused refusal given) e = refl
 empty_has_no_body c (reply.InfoRefused given) e = refl
 empty_has_no_body c (reply.ErrorPage why) e = absurd (never_empty (error_page c.full_pages c.title why) e)
 empty_has_no_body c (reply.SignedOut messages) e = absurd (never_empty (signed_out_page c.full_pages c.title) e)
+empty_has_no_body c reply.NotHere e = absurd (never_empty (missing_page c.full_pages c.title) e)
+empty_has_no_body c reply.Full e = absurd (never_empty (table_page c.full_pages c.title) e)
 empty_has_no_body c (reply.TokenRefused InvalidClient) e = absurd (true≢false (sym (ap is_empty e)))
 empty_has_no_body c (reply.TokenRefused other) e = absurd (true≢false (sym (ap is_empty e)))
 empty_has_no_body c other e = absurd (true≢false (sym (ap is_empty e)))

@@ -8,6 +8,7 @@ use Rattle.auth_answer.specs.declared.answer.Answer.{Answer}
 use Rattle.auth_answer.proofs.OnLiterals.{auth_answer_on_literals}
 use Rattle.token_endpoint.specs.declared.error.TokenError.TheVariants.{InvalidClient, InvalidGrant}
 use Rattle.sso_base.specs.declared.http.Kind.TheVariants.{Plain, Html}
+use Rattle.client_registry.specs.Records.{usual_settings}
 use Rattle.client_registry.specs.Configuration.{Configuration}
 use Rattle.sso_base.proofs.OnLiterals.{base64url_on_literals}
 use Rattle.http_reply.specs.UserAgent.{cookie_read}
@@ -16,7 +17,7 @@ use Rattle.op_response.specs.Cookies.{session_cookie, session_cookies}
 use Rattle.op_response.specs.Pages.{login_text, login_page, consent_text, consent_page}
 use Rattle.oidc_words.specs.Scopes.{scope_text}
 use Rattle.op_response.specs.Lines.{line_of}
-use Rattle.op_response.specs.FullPages.{scope_items}
+use Rattle.op_response.specs.FullPages.{turn_minutes, scope_items}
 use Rattle.op_response.specs.Telling.{http_of, application_title}
 use Rattle.http_reply.specs.Told.{kept, sets_cookie}
 use Rattle.op_response.specs.Told.{words_set, is_token_response, has_mark}
@@ -24,26 +25,34 @@ use Rattle.op_exchange.proofs.Sample.{word, sample, shop_client, profile_scopes,
 
 -- ---- cookies
 
-no_session : session_cookies true None ≡ []
+-- a provider at https, whose names of cookies begin with `__Host-`
+abbrev of_a_host : Configuration
+of_a_host = record sample { secure = true; settings = record usual_settings { host_cookies = true } }
+
+no_session : session_cookies of_a_host None ≡ []
 no_session = refl
 
-a_session : session_cookies true (Some (word 3)) ≡ codes "op_s=AAAAAAAAAAAAAAAAAAAAAAAAAAAAAAAAAAAAAAAAAAM; Path=/; HttpOnly; SameSite=Lax; Secure" ∷ []
+a_session : session_cookies (record sample { secure = true }) (Some (word 3)) ≡ codes "op_s=AAAAAAAAAAAAAAAAAAAAAAAAAAAAAAAAAAAAAAAAAAM; Path=/; HttpOnly; SameSite=Lax; Secure" ∷ []
 unfolding base64url_on_literals
 a_session = refl
 
-words_of_a_consent_page : words_set (reply.ConsentPage (word 2) (word 1) (Some (word 3)) (codes "shop-client") profile_scopes) ≡ (codes "op_b", word 1) ∷ (codes "op_s", word 3) ∷ []
+a_session_of_a_host : session_cookies of_a_host (Some (word 3)) ≡ codes "__Host-op_s=AAAAAAAAAAAAAAAAAAAAAAAAAAAAAAAAAAAAAAAAAAM; Path=/; HttpOnly; SameSite=Lax; Secure" ∷ []
+unfolding base64url_on_literals
+a_session_of_a_host = refl
+
+words_of_a_consent_page : words_set false (reply.ConsentPage (word 2) (word 1) (Some (word 3)) (codes "shop-client") profile_scopes) ≡ (codes "op_b", word 1) ∷ (codes "op_s", word 3) ∷ []
 words_of_a_consent_page = refl
 
-words_of_tokens : words_set (reply.Tokens (word 5) (codes "h.p.m")) ≡ []
+words_of_tokens : words_set true (reply.Tokens (word 5) (codes "h.p.m")) ≡ []
 words_of_tokens = refl
 
-a_session_is_set : sets_cookie session_cookie (codes "op_b=v; Path=/" ∷ codes "op_s=w; Path=/" ∷ []) ≡ true
+a_session_is_set : sets_cookie (session_cookie false) (codes "op_b=v; Path=/" ∷ codes "op_s=w; Path=/" ∷ []) ≡ true
 a_session_is_set = refl
 
-no_session_is_set : sets_cookie session_cookie (codes "op_b=op_s=; Path=/" ∷ []) ≡ false
+no_session_is_set : sets_cookie (session_cookie false) (codes "op_b=op_s=; Path=/" ∷ []) ≡ false
 no_session_is_set = refl
 
-nothing_is_set : sets_cookie session_cookie (codes "op_s; Path=/" ∷ []) ≡ false
+nothing_is_set : sets_cookie (session_cookie false) (codes "op_s; Path=/" ∷ []) ≡ false
 nothing_is_set = refl
 
 a_cookie_is_kept : kept false (codes "op_s", word 3) ≡ cookie_read (codes "op_s=AAAAAAAAAAAAAAAAAAAAAAAAAAAAAAAAAAAAAAAAAAM; Path=/; HttpOnly; SameSite=Lax")
@@ -87,6 +96,22 @@ error_page_told = refl
 
 abbrev titled : Configuration
 titled = record sample { full_pages = true; title = codes "Accounts" }
+
+full_table_told : http_of sample reply.Full ≡ record { status = 503; pragma = false; location = None; cookies = []; challenge = None; kind = Plain; body = codes "full" ++ 10 ∷ [] }
+unfolding http_of
+full_table_told = refl
+
+full_table_page_has_its_status : (http_of titled reply.Full).status ≡ 503
+unfolding http_of
+full_table_page_has_its_status = refl
+
+unknown_path_told : http_of sample reply.NotHere ≡ record { status = 404; pragma = false; location = None; cookies = []; challenge = None; kind = Plain; body = codes "not here" ++ 10 ∷ [] }
+unfolding http_of
+unknown_path_told = refl
+
+turns_are_for_ten_minutes : turn_minutes ≡ codes "10"
+unfolding digits
+turns_are_for_ten_minutes = refl
 
 full_error_page_told : (http_of titled (reply.ErrorPage page.Browser)).kind ≡ Html
 unfolding http_of

@@ -1,16 +1,21 @@
 -- The cookies that the provider sets (RFC 6265, 4.1).
 use Rattle.std.specs.Prelude.{Bool, List, [], ◌∷◌, codes, Option, Some, None}
 use Rattle.sso_base.specs.Words.{Word, Text}
-use Rattle.http_reply.specs.Cookies.{cookie}
+use Rattle.http_reply.specs.Cookies.{cookie_name, cookie}
+use Rattle.client_registry.specs.Configuration.{Configuration}
 
--- the cookie of a browser that got a form, and that of a session
-abbrev pub browser_cookie : Text
-browser_cookie = codes "op_b"
+-- the name of the cookie of a browser that got a form, and that of a session, with the prefix `__Host-` or without it
+abbrev pub browser_cookie : Bool → Text
+browser_cookie host = cookie_name host (codes "op_b")
 
-abbrev pub session_cookie : Text
-session_cookie = codes "op_s"
+abbrev pub session_cookie : Bool → Text
+session_cookie host = cookie_name host (codes "op_s")
+
+-- a browser's cookie
+abbrev pub browser_cookies : Configuration → Word → List Text
+browser_cookies c browser = cookie c.secure (browser_cookie c.settings.host_cookies) browser ∷ []
 
 -- a session's cookie, if a reply has a session word
-abbrev pub session_cookies : Bool → Option Word → List Text
-session_cookies secure None = []
-session_cookies secure (Some word) = cookie secure session_cookie word ∷ []
+abbrev pub session_cookies : Configuration → Option Word → List Text
+session_cookies c None = []
+session_cookies c (Some word) = cookie c.secure (session_cookie c.settings.host_cookies) word ∷ []

@@ -1,14 +1,16 @@
 -- The full pages of the provider, in HTML (our choice): login and consent (OpenID Connect Core 1.0, 3.1.2.3 and 3.1.2.4), the
 -- end of a session, and errors. Titles are escaped; nothing else in them has to be, as in the plain pages.
-use Rattle.std.specs.Prelude.{Bool, true, false, [], ◌++◌, codes, Option, Some, None}
+use Rattle.std.specs.Prelude.{Bool, true, false, [], ◌∷◌, ◌++◌, ◌/◌, codes, decimal, Option, Some, None}
+use Rattle.std.specs.List.{concat}
 use Rattle.sso_base.specs.Words.{Text}
+use Rattle.oidc_words.specs.Lives.{turn_life}
 use Rattle.oidc_words.specs.Paths.{login_path, consent_path, signout_path}
 use Rattle.oidc_words.specs.declared.scopes.Scopes.{Scopes}
 use Rattle.auth_request.specs.declared.wish.PageNo.{PageNo}
 use Rattle.auth_request.specs.declared.wish.PageNo.TheVariants as page
 use Rattle.op_exchange.specs.Fields.{turn_field, user_field, password_field, agree_field, agree_value}
 use Rattle.html_pages.specs.Escaping.{escaped}
-use Rattle.html_pages.specs.Documents.{document}
+use Rattle.html_pages.specs.Documents.{document, document_until}
 use Rattle.html_pages.specs.Forms.{form, hidden, alert, small_line}
 use Rattle.op_response.specs.Lines.{page_word}
 
@@ -23,7 +25,7 @@ unfoldable pub login_fields : Text
 login_fields =
     codes "<label for=\"user\">User name</label>\n<input id=\"user\" name=\""
     ++ user_field
-    ++ codes "\" autocomplete=\"username\" spellcheck=\"false\" required autofocus>\n<label for=\"password\">Password</label>\n"
+    ++ codes "\" autocomplete=\"username\" autocapitalize=\"none\" spellcheck=\"false\" required autofocus>\n<label for=\"password\">Password</label>\n"
     ++ codes "<input id=\"password\" type=\"password\" name=\""
     ++ password_field
     ++ codes "\" autocomplete=\"current-password\" required>\n<button>Sign in</button>\n</form>\n"
@@ -32,9 +34,10 @@ abbrev pub login_content : Text → Text → Bool → Text
 login_content prefix turn again = again_alert again ++ form (prefix ++ login_path) ++ hidden turn_field turn ++ login_fields
 
 -- of a site with this title: the form of a turn, given the turn's text, with an action below the path of the issuer; `again`
--- after a wrong password
+-- after a wrong password. When a turn of this moment is over, a user agent leaves the page for one that says how to begin again.
 abbrev pub full_login_page : Text → Text → Text → Bool → Text
-full_login_page site prefix turn again = document (codes "Sign in") site (login_content prefix turn again)
+full_login_page site prefix turn again =
+    document_until (decimal turn_life) (prefix ++ login_path) (codes "Sign in") site (login_content prefix turn again)
 
 -- ---- the consent page
 
@@ -100,12 +103,20 @@ error_heading page.Twice = codes "Unclear request"
 error_heading page.Turn = codes "Already used, or too late"
 error_heading page.Browser = codes "Another browser's page"
 
+-- how long a page to sign in works
+abbrev pub turn_minutes : Text
+turn_minutes = decimal (turn_life / 60)
+
 -- what a user can do
 abbrev pub error_advice : PageNo → Text
 error_advice page.Client = codes "The application that sent you here is not registered with this site. Please tell those who run it."
 error_advice page.Redirect = codes "The application asks for an answer at an address that is not registered for it. Please tell those who run it."
 error_advice page.Twice = codes "The application sent something twice that may come once. Please go back to it and begin again."
-error_advice page.Turn = codes "A page to sign in works once, and for ten minutes. Please go back to the application and begin again."
+error_advice page.Turn =
+    concat (
+    codes "A page to sign in works once, and for "
+    ∷ turn_minutes
+    ∷ codes " minutes. Please go back to the application and begin again." ∷ [])
 error_advice page.Browser =
     codes "This sign-in began in another browser, or this one keeps no cookies. Please go back to the application and begin again."
 
@@ -119,7 +130,36 @@ error_content why = alert (error_advice why) ++ small_line (error_line why)
 abbrev pub full_error_page : Text → PageNo → Text
 full_error_page site why = document (error_heading why) site (error_content why)
 
+-- ---- other pages that say what a user can do
+
+-- a page with a heading and an advice, of a site with this title, and the line of the plain page
+abbrev pub notice_page : Text → Text → Text → Text → Text
+notice_page site heading advice line = document heading site (alert advice ++ small_line line)
+
+abbrev pub full_table_page : Text → Text
+full_table_page site =
+    notice_page site (codes "Please come back later") (codes "Too many people are signing in. Please wait for some minutes and begin again.") (codes "full")
+
+-- a page to sign in that is too old leads here
+abbrev pub missing_advice : Text
+missing_advice =
+    concat (
+    codes "If you were signing in, that took too long: a page to sign in works for "
+    ∷ turn_minutes
+    ∷ codes " minutes. Please go back to the application and begin again." ∷ [])
+
+abbrev pub full_missing_page : Text → Text
+full_missing_page site = notice_page site (codes "Nothing is here") missing_advice (codes "not here")
+
 -- ---- pages in place of lines, if pages are full
+
+abbrev pub table_page : Bool → Text → Option Text
+table_page false site = None
+table_page true site = Some (full_table_page site)
+
+abbrev pub missing_page : Bool → Text → Option Text
+missing_page false site = None
+missing_page true site = Some (full_missing_page site)
 
 abbrev pub error_page : Bool → Text → PageNo → Option Text
 error_page false site why = None

@@ -3,8 +3,7 @@ use Rattle.std.specs.Prelude.{ℕ, Bool, true, false, [], ◌∷◌, ◌++◌, c
 use Rattle.sso_base.specs.Words.{Word, Text, word_text}
 use Rattle.sso_base.specs.declared.http.HttpReply.{HttpReply}
 use Rattle.sso_base.specs.declared.http.Kind.TheVariants.{Empty, Json}
-use Rattle.http_reply.specs.Cookies.{cookie}
-use Rattle.http_reply.specs.Replies.{html, plain, sent_to}
+use Rattle.http_reply.specs.Replies.{html, sent_to}
 use Rattle.html_pages.specs.Documents.{shown}
 use Rattle.client_registry.specs.declared.records.Client.{Client}
 use Rattle.client_registry.specs.Configuration.{Configuration}
@@ -21,9 +20,9 @@ use Rattle.token_endpoint.specs.Answer.{tokens_text}
 use Rattle.token_endpoint.specs.Errors.{error_text}
 use Rattle.op_exchange.specs.declared.reply.OpReply.{OpReply}
 use Rattle.op_exchange.specs.declared.reply.OpReply.TheVariants as reply
-use Rattle.op_response.specs.Cookies.{browser_cookie, session_cookies}
+use Rattle.op_response.specs.Cookies.{browser_cookies, session_cookies}
 use Rattle.op_response.specs.Pages.{login_page, consent_page}
-use Rattle.op_response.specs.FullPages.{full_login_page, full_consent_page, error_line, error_page, signed_out_page}
+use Rattle.op_response.specs.FullPages.{full_login_page, full_consent_page, error_line, error_page, signed_out_page, table_page, missing_page}
 
 -- ---- kinds of replies
 
@@ -50,7 +49,7 @@ login_body true site prefix turn again = full_login_page site prefix turn again
 
 abbrev pub login_shown : Configuration → Word → Word → Bool → HttpReply
 login_shown c turn browser again =
-    html (cookie c.secure browser_cookie browser ∷ []) (login_body c.full_pages c.title c.prefix (word_text turn) again)
+    html (browser_cookies c browser) (login_body c.full_pages c.title c.prefix (word_text turn) again)
 
 -- the title of the client with an id
 abbrev pub title_in : Text → Option Client → Text
@@ -67,13 +66,19 @@ consent_body true c turn client scopes = full_consent_page c.title c.prefix turn
 
 abbrev pub consent_shown : Configuration → Word → Word → Option Word → Text → Scopes → HttpReply
 consent_shown c turn browser session client scopes =
-    html (cookie c.secure browser_cookie browser ∷ session_cookies c.secure session) (consent_body c.full_pages c (word_text turn) client scopes)
+    html (browser_cookies c browser ++ session_cookies c session) (consent_body c.full_pages c (word_text turn) client scopes)
 
 abbrev pub error_shown : Configuration → PageNo → HttpReply
 error_shown c why = shown 400 (error_page c.full_pages c.title why) (error_line why)
 
 abbrev pub signed_out_shown : Configuration → HttpReply
 signed_out_shown c = shown 200 (signed_out_page c.full_pages c.title) (codes "signed out")
+
+abbrev pub full_shown : Configuration → HttpReply
+full_shown c = shown 503 (table_page c.full_pages c.title) (codes "full")
+
+abbrev pub missing_shown : Configuration → HttpReply
+missing_shown c = shown 404 (missing_page c.full_pages c.title) (codes "not here")
 
 -- ---- error responses
 
@@ -92,8 +97,8 @@ bearer_challenge false = bearer_word ++ codes " realm=\"sso\""
 unfoldable pub http_of : Configuration → OpReply → HttpReply
 http_of c (reply.LoginPage turn browser again) = login_shown c turn browser again
 http_of c (reply.ConsentPage turn browser session client scopes) = consent_shown c turn browser session client scopes
-http_of c (reply.Answered answer session) = sent_to (answer_location answer) (session_cookies c.secure session)
-http_of c (reply.Refused refusal session) = sent_to (refusal_location refusal) (session_cookies c.secure session)
+http_of c (reply.Answered answer session) = sent_to (answer_location answer) (session_cookies c session)
+http_of c (reply.Refused refusal session) = sent_to (refusal_location refusal) (session_cookies c session)
 http_of c (reply.ErrorPage why) = error_shown c why
 http_of c (reply.Tokens access id) = token_response 200 None (tokens_text (word_text access) id)
 http_of c (reply.TokenRefused code) = token_refused code
@@ -102,5 +107,5 @@ http_of c (reply.InfoRefused given) = unauthorized (bearer_challenge given)
 http_of c (reply.SignedOut messages) = signed_out_shown c
 http_of c (reply.Metadata text) = json text
 http_of c reply.Keys = json (codes "{\"keys\":[]}")
-http_of c reply.NotHere = plain 404 (codes "not here")
-http_of c reply.Full = plain 503 (codes "full")
+http_of c reply.NotHere = missing_shown c
+http_of c reply.Full = full_shown c

@@ -16,9 +16,9 @@ browser_given (LoginPage turn browser again) = Some browser
 browser_given (ConsentPage turn browser session client scopes) = Some browser
 browser_given reply = None
 
--- the words that a reply sets, in order
-abbrev pub words_set : OpReply → List Named
-words_set reply = words_named browser_cookie (browser_given reply) ++ words_named session_cookie (session_given reply)
+-- the words that a reply sets, in order, under names with the prefix `__Host-` or without it
+abbrev pub words_set : Bool → OpReply → List Named
+words_set host reply = words_named (browser_cookie host) (browser_given reply) ++ words_named (session_cookie host) (session_given reply)
 
 -- ---- responses of the token endpoint (RFC 6749, 5.1 and 5.2)
 

@@ -2,14 +2,16 @@
 
 ghost use Rattle.std.specs.Prelude.{◌≡◌, ◌++◌, IfOk, OnOk};
 ghost use Rattle.sso_base.specs.Words.{word_text};
+ghost use Rattle.auth_request.specs.declared.wish.PageNo.TheVariants as page_no;
+ghost use Rattle.html_pages.specs.Forms.{alert, small_line};
 ghost use Rattle.op_response.specs.FullPages as spec;
 
 use crate::lines::page_word;
 use auth_request::PageNo;
 use client_registry::Registry;
 use html_pages::Page;
-use http_reply::concatenated;
-use oidc_words::{CONSENT_PATH, LOGIN_PATH, SIGNOUT_PATH, Scopes};
+use http_reply::{concatenated, joined};
+use oidc_words::{CONSENT_PATH, LOGIN_PATH, SIGNOUT_PATH, Scopes, TURN_LIFE};
 use op_exchange::{AGREE_FIELD, AGREE_VALUE, PASSWORD_FIELD, TURN_FIELD, USER_FIELD};
 use sso_base::{Blob, NoMemory, Text, Word};
 use std::alloc::Global;
@@ -33,7 +35,7 @@ fn push_login_fields(page: &mut Page) -> Result<(), NoMemory>
     page.push("<label for=\"user\">User name</label>\n<input id=\"user\" name=\"")?;
     page.push(USER_FIELD)?;
     page.push(
-        "\" autocomplete=\"username\" spellcheck=\"false\" required autofocus>\n\
+        "\" autocomplete=\"username\" autocapitalize=\"none\" spellcheck=\"false\" required autofocus>\n\
          <label for=\"password\">Password</label>\n<input id=\"password\" type=\"password\" name=\"",
     )?;
     page.push(PASSWORD_FIELD)?;
@@ -49,7 +51,7 @@ fn push_login(page: &mut Page, prefix: &str, turn: &str, again: bool) -> Result<
     push_login_fields(page)
 }
 
-// The login page of a site with this title, with an alert after a wrong password.
+// The login page of a site with this title, with an alert after a wrong password. When its turn is over, a user agent leaves it.
 pub(crate) fn full_login_page(
     alloc: Global,
     site: &Text,
@@ -60,8 +62,10 @@ pub(crate) fn full_login_page(
     ensures { IfOk result (λ b. b ≡ spec.full_login_page site.now prefix.now (word_text turn.now) again) }
 {
     let turn = turn.to_text(alloc)?;
-    let mut page = Page::begin(alloc, "Sign in", site.as_str())?;
-    push_login(&mut page, prefix.as_str(), turn.as_str(), again)?;
+    let prefix = prefix.as_str();
+    let site = site.as_str();
+    let mut page = Page::begin_until(alloc, "Sign in", site, TURN_LIFE, prefix, LOGIN_PATH)?;
+    push_login(&mut page, prefix, turn.as_str(), again)?;
     page.end()
 }
 
@@ -205,20 +209,47 @@ fn error_heading(why: PageNo) -> &'static str
     }
 }
 
-fn error_advice(why: PageNo) -> &'static str
-    ensures { result.now ≡ spec.error_advice why }
+// How many minutes a page to sign in works.
+fn turn_minutes(alloc: Global) -> Result<Text, NoMemory>
+    ensures { IfOk result (λ t. t ≡ spec.turn_minutes) }
+{
+    let minutes = (TURN_LIFE / 60).to_string(alloc)?;
+    Ok(Text::from_string(minutes))
+}
+
+fn turn_advice(alloc: Global) -> Result<Text, NoMemory>
+    ensures { IfOk result (λ t. t ≡ spec.error_advice page_no.Turn) }
+{
+    let minutes = turn_minutes(alloc)?;
+    let pieces = [
+        "A page to sign in works once, and for ",
+        minutes.as_str(),
+        " minutes. Please go back to the application and begin again.",
+    ];
+    Ok(Text::from_string(joined(alloc, &pieces)?))
+}
+
+fn error_advice(alloc: Global, why: PageNo) -> Result<Text, NoMemory>
+    ensures { IfOk result (λ t. t ≡ spec.error_advice why) }
 {
     match why {
-        PageNo::Client =>
+        PageNo::Client => Text::new(
+            alloc,
             "The application that sent you here is not registered with this site. Please tell those who run it.",
-        PageNo::Redirect =>
+        ),
+        PageNo::Redirect => Text::new(
+            alloc,
             "The application asks for an answer at an address that is not registered for it. Please tell those who run it.",
-        PageNo::Twice =>
+        ),
+        PageNo::Twice => Text::new(
+            alloc,
             "The application sent something twice that may come once. Please go back to it and begin again.",
-        PageNo::Turn =>
-            "A page to sign in works once, and for ten minutes. Please go back to the application and begin again.",
-        PageNo::Browser => "This sign-in began in another browser, or this one keeps no cookies. \
-             Please go back to the application and begin again.",
+        ),
+        PageNo::Turn => turn_advice(alloc),
+        PageNo::Browser => Text::new(
+            alloc,
+            "This sign-in began in another browser, or this one keeps no cookies. Please go back to the application and begin again.",
+        ),
     }
 }
 
@@ -230,20 +261,22 @@ pub(crate) fn error_line(alloc: Global, why: PageNo) -> Result<Text, NoMemory>
 }
 
 #[tactic(auto, unfolding(crate::specs::FullPages::error_content))]
-fn push_error(page: &mut Page, why: PageNo, line: &str) -> Result<(), NoMemory>
-    requires { line.now ≡ spec.error_line why }
+fn push_error(page: &mut Page, why: PageNo, advice: &str, line: &str) -> Result<(), NoMemory>
+    requires advice { advice.now ≡ spec.error_advice why }
+    requires line { line.now ≡ spec.error_line why }
     ensures { OnOk result (page.new ≡ page.old ++ spec.error_content why) }
 {
-    page.push_alert(error_advice(why))?;
+    page.push_alert(advice)?;
     page.push_line(line)
 }
 
 fn full_error_page(alloc: Global, site: &Text, why: PageNo) -> Result<Blob, NoMemory>
     ensures { IfOk result (λ b. b ≡ spec.full_error_page site.now why) }
 {
+    let advice = error_advice(alloc, why)?;
     let line = error_line(alloc, why)?;
     let mut page = Page::begin(alloc, error_heading(why), site.as_str())?;
-    push_error(&mut page, why, line.as_str())?;
+    push_error(&mut page, why, advice.as_str(), line.as_str())?;
     page.end()
 }
 
@@ -260,4 +293,76 @@ pub(crate) fn error_page(
     } else {
         Ok(None)
     }
+}
+
+// ---- other pages that say what a user can do
+
+fn push_notice(page: &mut Page, advice: &str, line: &str) -> Result<(), NoMemory>
+    ensures { OnOk result (page.new ≡ page.old ++ (alert advice.now ++ small_line line.now)) }
+{
+    page.push_alert(advice)?;
+    page.push_line(line)
+}
+
+/// A page with a heading and an advice, of the site with this title, and the line of the plain page. All are texts, and are
+/// escaped.
+pub fn notice_page(
+    alloc: Global,
+    site: &Text,
+    heading: &str,
+    advice: &str,
+    line: &str,
+) -> Result<Blob, NoMemory>
+    ensures { IfOk result (λ b. b ≡ spec.notice_page site.now heading.now advice.now line.now) }
+{
+    let mut page = Page::begin(alloc, heading, site.as_str())?;
+    push_notice(&mut page, advice, line)?;
+    page.end()
+}
+
+// The page of a full table, if pages are full.
+pub(crate) fn table_page(alloc: Global, registry: &Registry) -> Result<Option<Blob>, NoMemory>
+    ensures { IfOk result (λ o. o ≡ spec.table_page registry.now.full_pages registry.now.title) }
+{
+    if !registry.full_pages() {
+        return Ok(None);
+    }
+    let heading = "Please come back later";
+    let advice = "Too many people are signing in. Please wait for some minutes and begin again.";
+    Ok(Some(notice_page(
+        alloc,
+        registry.title(),
+        heading,
+        advice,
+        "full",
+    )?))
+}
+
+fn missing_advice(alloc: Global) -> Result<Text, NoMemory>
+    ensures { IfOk result (λ t. t ≡ spec.missing_advice) }
+{
+    let minutes = turn_minutes(alloc)?;
+    let pieces = [
+        "If you were signing in, that took too long: a page to sign in works for ",
+        minutes.as_str(),
+        " minutes. Please go back to the application and begin again.",
+    ];
+    Ok(Text::from_string(joined(alloc, &pieces)?))
+}
+
+// The page of an unknown path, if pages are full. A login page that is too old leads there.
+pub(crate) fn missing_page(alloc: Global, registry: &Registry) -> Result<Option<Blob>, NoMemory>
+    ensures { IfOk result (λ o. o ≡ spec.missing_page registry.now.full_pages registry.now.title) }
+{
+    if !registry.full_pages() {
+        return Ok(None);
+    }
+    let advice = missing_advice(alloc)?;
+    Ok(Some(notice_page(
+        alloc,
+        registry.title(),
+        "Nothing is here",
+        advice.as_str(),
+        "not here",
+    )?))
 }

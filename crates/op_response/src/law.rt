@@ -19,7 +19,7 @@ ghost use Rattle.op_exchange.specs.Replied.{ends_turn, session_given};
 ghost use Rattle.op_response.specs.Cookies.{browser_cookie, session_cookie};
 ghost use Rattle.op_response.specs.Telling.{http_of};
 ghost use Rattle.op_response.specs.Lines.{line_of};
-ghost use Rattle.http_reply.specs.Told.{kept, sets_cookie};
+ghost use Rattle.http_reply.specs.Told.{AreTaken, kept, sets_cookie};
 ghost use Rattle.op_response.specs.Told.{browser_given, words_set, is_token_response, has_mark};
 ghost use Rattle.op_response.specs.Laws.{WrittenTokensAreRead, LoginFormsArePostedToTheProvider, LoginFormsHaveTheirTurn, ConsentFormsArePostedToTheProvider};
 ghost use Rattle.op_response.specs.Laws.{ConsentFormsHaveTheirTurn, ConsentPagesNameClientAndScopes, PlainBodiesAreLines, LinesTellTheParts};
@@ -27,11 +27,15 @@ ghost use Rattle.op_response.specs.Laws.{FullConsentPagesNameApplicationAndScope
 
 /// The cookies of a reply hold exactly the words that it sets, in order: the browser word of a page, and the session word, if
 /// there is one. A user agent reads each under its name as the word's text, for every path, `HttpOnly`, `SameSite=Lax` and, if
-/// and only if the issuer is https, `Secure` (RFC 6265, 5.2). A reply without a session word sets no session cookie.
+/// and only if the issuer is https, `Secure` (RFC 6265, 5.2), and takes it, whether names begin with `__Host-` or not. A reply
+/// without a session word sets no session cookie.
 pub fn cookies_hold_the_words_of_replies()
-    ensures read { (c : Configuration) (r : OpReply) → map cookie_read (http_of c r).cookies ≡ map (kept c.secure) (words_set r) }
-    ensures session { (c : Configuration) (r : OpReply) → sets_cookie session_cookie (http_of c r).cookies ≡ is_some (session_given r) }
-    ensures browser { (c : Configuration) (r : OpReply) → sets_cookie browser_cookie (http_of c r).cookies ≡ is_some (browser_given r) }
+    ensures read { (c : Configuration) (r : OpReply) → map cookie_read (http_of c r).cookies ≡ map (kept c.secure) (words_set c.settings.host_cookies r) }
+    ensures session { (c : Configuration) (r : OpReply)
+        → sets_cookie (session_cookie c.settings.host_cookies) (http_of c r).cookies ≡ is_some (session_given r) }
+    ensures browser { (c : Configuration) (r : OpReply)
+        → sets_cookie (browser_cookie c.settings.host_cookies) (http_of c r).cookies ≡ is_some (browser_given r) }
+    ensures taken { (c : Configuration) (r : OpReply) → IsRegistry c → AreTaken c.secure (words_set c.settings.host_cookies r) }
 {}
 
 /// Authorization responses, and no other replies, redirect the user agent with status 303, to the location of the response.

@@ -5,8 +5,8 @@
 //! |---|---|
 //! | `telling` | [`op_http`] and [`token_response`]: the status, the fields and the body of a reply |
 //! | `html` | the plain login page and the plain consent page |
-//! | `full_pages` | the full pages: login, consent, the end of a session, and errors |
-//! | `cookies` | the browser's cookie and the session's |
+//! | `full_pages` | the full pages: login, consent, the end of a session, errors; [`notice_page`] |
+//! | `cookies` | [`browser_cookie`] and [`session_cookie`], the names of the browser's cookie and the session's |
 //! | `lines` | [`op_line`]: the line of a reply |
 //! | `law` | laws about the output of replies, for the crates above |
 #![tactic(auto)]
@@ -18,6 +18,8 @@ mod law;
 mod lines;
 mod telling;
 
+pub use cookies::{browser_cookie, session_cookie};
+pub use full_pages::notice_page;
 pub use law::{
     challenges_are_unauthorized, cookies_hold_the_words_of_replies,
     forms_are_posted_to_the_provider, full_pages_post_what_plain_ones_post,
@@ -25,4 +27,4 @@ pub use law::{
     responses_send_the_user_agent_on, token_responses_are_not_cached,
 };
 pub use lines::op_line;
-pub use telling::{op_http, token_response};
+pub use telling::{full_shown, op_http, signed_out_shown, token_response};

@@ -8,14 +8,15 @@ ghost use Rattle.op_response.specs.Telling as spec;
 
 use crate::cookies::{browser_cookies, push_session};
 use crate::full_pages::{
-    error_line, error_page, full_consent_page, full_login_page, signed_out_page,
+    error_line, error_page, full_consent_page, full_login_page, missing_page, signed_out_page,
+    table_page,
 };
 use crate::html::{consent_page, login_page};
 use auth_answer::{print_answer, print_refusal};
 use auth_request::PageNo;
 use client_registry::Registry;
 use html_pages::shown;
-use http_reply::{html, joined, plain};
+use http_reply::{html, joined};
 use oidc_words::{BEARER, INVALID_TOKEN, Scopes};
 use op_exchange::OpReply;
 use sso_base::{Blob, HttpReply, Kind, NoMemory, Text, Texts, Word};
@@ -42,14 +43,14 @@ fn json(alloc: Global, body: &[u8]) -> Result<HttpReply, NoMemory>
 // A redirect of the user agent to this location, with the session cookie if there is a session word.
 fn sent_with_session(
     alloc: Global,
-    secure: bool,
+    registry: &Registry,
     location: Text,
     session: &Option<Word>,
 ) -> Result<HttpReply, NoMemory>
-    ensures { IfOk result (λ h. h ≡ sent_to location (session_cookies secure session.now)) }
+    ensures { IfOk result (λ h. h ≡ sent_to location (session_cookies registry.now session.now)) }
 {
     let mut cookies = Texts::new(alloc);
-    push_session(&mut cookies, alloc, secure, session)?;
+    push_session(&mut cookies, alloc, registry, session)?;
     Ok(http_reply::sent_to(alloc, location, cookies))
 }
 
@@ -132,7 +133,7 @@ fn login_shown(
 ) -> Result<HttpReply, NoMemory>
     ensures { IfOk result (λ h. h ≡ spec.login_shown registry.now turn.now browser.now again) }
 {
-    let cookies = browser_cookies(alloc, registry.secure(), browser)?;
+    let cookies = browser_cookies(alloc, registry, browser)?;
     let page = login_body(alloc, registry, turn, again)?;
     Ok(html(cookies, page))
 }
@@ -177,8 +178,8 @@ fn consent_shown(
 ) -> Result<HttpReply, NoMemory>
     ensures { IfOk result (λ h. h ≡ spec.consent_shown registry.now turn.now browser.now session.now client.now scopes.now) }
 {
-    let mut cookies = browser_cookies(alloc, registry.secure(), browser)?;
-    push_session(&mut cookies, alloc, registry.secure(), session)?;
+    let mut cookies = browser_cookies(alloc, registry, browser)?;
+    push_session(&mut cookies, alloc, registry, session)?;
     let page = consent_body(alloc, registry, turn, client, scopes)?;
     Ok(html(cookies, page))
 }
@@ -191,11 +192,27 @@ fn error_shown(alloc: Global, registry: &Registry, why: PageNo) -> Result<HttpRe
     shown(alloc, 400, page, line.as_str())
 }
 
-fn signed_out_shown(alloc: Global, registry: &Registry) -> Result<HttpReply, NoMemory>
+/// The reply after a sign-out: a line of text, or a page if pages are full.
+pub fn signed_out_shown(alloc: Global, registry: &Registry) -> Result<HttpReply, NoMemory>
     ensures { IfOk result (λ h. h ≡ spec.signed_out_shown registry.now) }
 {
     let page = signed_out_page(alloc, registry)?;
     shown(alloc, 200, page, "signed out")
+}
+
+/// The reply if a table is full: a line of text, or a page if pages are full, with status 503.
+pub fn full_shown(alloc: Global, registry: &Registry) -> Result<HttpReply, NoMemory>
+    ensures { IfOk result (λ h. h ≡ spec.full_shown registry.now) }
+{
+    let page = table_page(alloc, registry)?;
+    shown(alloc, 503, page, "full")
+}
+
+fn missing_shown(alloc: Global, registry: &Registry) -> Result<HttpReply, NoMemory>
+    ensures { IfOk result (λ h. h ≡ spec.missing_shown registry.now) }
+{
+    let page = missing_page(alloc, registry)?;
+    shown(alloc, 404, page, "not here")
 }
 
 /// The HTTP reply for this reply of a provider with this registry.
@@ -203,17 +220,16 @@ fn signed_out_shown(alloc: Global, registry: &Registry) -> Result<HttpReply, NoM
 /// A login page and a consent page are HTML, plain or full as the registry says, and set the browser's cookie `op_b`.
 /// Authorization responses redirect the user agent to their location, with status 303. Each of these, except a login page, sets
 /// the session's cookie `op_s` if it has a session word. A cookie is a word's text, for every path, `HttpOnly`, `SameSite=Lax`
-/// and, if the issuer is https, `Secure` (RFC 6265, 4.1).
+/// and, if the issuer is https, `Secure` (RFC 6265, 4.1). If the registry says so, both names begin with `__Host-`.
 ///
 /// Token responses are JSON with `Pragma: no-cache` (RFC 6749, 5.1 and 5.2). The claims of a user, the provider's metadata and
-/// its keys are JSON. Error pages and sign-outs are one line of text, or HTML if pages are full. Replies for an unknown path or a
-/// full table are one line of text. A client that is not authenticated, and a UserInfo request without a valid token, get a
+/// its keys are JSON. Error pages, sign-outs, and replies for an unknown path or a full table are one line of text, or HTML if
+/// pages are full. A client that is not authenticated, and a UserInfo request without a valid token, get a
 /// challenge with status 401 (RFC 6749, 5.2; RFC 6750, 3).
 #[tactic(auto, unfolding(crate::specs::Telling::http_of))]
 pub fn op_http(alloc: Global, registry: &Registry, reply: &OpReply) -> Result<HttpReply, NoMemory>
     ensures { IfOk result (λ h. h ≡ spec.http_of registry.now reply.now) }
 {
-    let secure = registry.secure();
     match reply {
         OpReply::LoginPage {
             turn,
@@ -228,10 +244,10 @@ pub fn op_http(alloc: Global, registry: &Registry, reply: &OpReply) -> Result<Ht
             scopes,
         } => consent_shown(alloc, registry, turn, browser, session, client, scopes),
         OpReply::Answered { answer, session } => {
-            sent_with_session(alloc, secure, print_answer(alloc, answer)?, session)
+            sent_with_session(alloc, registry, print_answer(alloc, answer)?, session)
         }
         OpReply::Refused { refusal, session } => {
-            sent_with_session(alloc, secure, print_refusal(alloc, refusal)?, session)
+            sent_with_session(alloc, registry, print_refusal(alloc, refusal)?, session)
         }
         OpReply::ErrorPage { why } => error_shown(alloc, registry, *why),
         OpReply::Tokens { access, id } => {
@@ -246,7 +262,7 @@ pub fn op_http(alloc: Global, registry: &Registry, reply: &OpReply) -> Result<Ht
         OpReply::SignedOut { .. } => signed_out_shown(alloc, registry),
         OpReply::Metadata { text } => json(alloc, text.as_str().as_bytes()),
         OpReply::Keys => json(alloc, NO_KEYS.as_bytes()),
-        OpReply::NotHere => plain(alloc, 404, "not here"),
-        OpReply::Full => plain(alloc, 503, "full"),
+        OpReply::NotHere => missing_shown(alloc, registry),
+        OpReply::Full => full_shown(alloc, registry),
     }
 }

@@ -1,7 +1,7 @@
 // Doors and links of this machine, with clients over loopback.
 
 use case_lines::{as_text, push_part, told, told_quoted};
-use platform::{TcpDoor, TcpLink};
+use platform::{Names, TcpDoor, TcpLink};
 use server_desk::{Door, Link, LinkNo, Source, read_whole};
 use sso_base::{Blob, NoMemory, Text, write_whole};
 use std::alloc::{AllocGlobal, Global};
@@ -228,7 +228,7 @@ where
     let Some(place) = listen(alloc, &mut door)? else {
         return told(alloc, "no port is free");
     };
-    let mut link = TcpLink::new(rt);
+    let mut link = TcpLink::new(rt, Names::new(Blob::new(alloc, b"")?));
     let (read, back) = join(
         rt,
         || serve(alloc, &mut door, 5, 5, b"answered"),
@@ -238,6 +238,46 @@ where
     let (read, back) = (told_came(alloc, &read)?, told_answer(alloc, &back)?);
     let closed = told_closed(alloc, &mut link, &place)?;
     Ok(format!(in alloc; "{read}, {back} / {closed}")?)
+}
+
+/// An answer that is whole by its length.
+const WHOLE: &[u8] = b"HTTP/1.1 200 OK\r\nContent-Length: 2\r\n\r\nok";
+
+// Takes the next connection, reads five bytes, writes an answer that is whole, and waits until the client ends. Returns whether it did.
+fn serve_open<D: Door>(alloc: Global, door: &mut D) -> bool {
+    let Ok(Some(mut connection)) = door.next() else {
+        return false;
+    };
+    let bytes = read_bytes(alloc, &mut connection.source, 5, 5);
+    let written = write_whole(&mut connection.sink, WHOLE);
+    let mut more = [0u8; 1];
+    let ended = matches!(read_whole(&mut connection.source, &mut more), Ok(0));
+    door.done(connection);
+    bytes.is_some() && written.is_ok() && ended
+}
+
+/// `machine|open`: the answer of a link to a server that keeps its connections open after an answer that is whole by its length.
+pub fn open<R>(rt: &R, alloc: Global) -> Result<String, NoMemory>
+where
+    R: Threads + Net<Listener = TcpListener, Stream = TcpStream> + Clock + Sync + AllocGlobal,
+{
+    let mut door = TcpDoor::new(rt);
+    let Some(place) = listen(alloc, &mut door)? else {
+        return told(alloc, "no port is free");
+    };
+    let mut link = TcpLink::new(rt, Names::new(Blob::new(alloc, b"")?));
+    let (ended, back) = join(
+        rt,
+        || serve_open(alloc, &mut door),
+        || link.exchange(alloc, &place, b"asked", 4096),
+    );
+    let back = told_answer(alloc, &back)?;
+    let who = if ended {
+        "the link ended first"
+    } else {
+        "the server ended first"
+    };
+    Ok(format!(in alloc; "{back}, {who}")?)
 }
 
 // The same for this address, and whether it took much less time than an exchange may.
@@ -304,7 +344,7 @@ where
         return told(alloc, "no port");
     };
     let place = format!(in alloc; "0.0.0.0:{}", address.port())?;
-    let mut link = TcpLink::new(rt);
+    let mut link = TcpLink::new(rt, Names::new(Blob::new(alloc, b"")?));
     let far = told_at_once(rt, alloc, &mut link, "192.0.2.1:80")?;
     let near = told_at_once(rt, alloc, &mut link, place.as_str())?;
     let by_link = told_asked(is_asked(rt, &listener));

@@ -11,6 +11,7 @@
 //! | `writer|CALL` | the bytes that a writer takes as a sink, if its call CALL fails |
 //! | `words|NAME|WORD|..` | the words of a process |
 //! | `clock|STEADY WALL|..` | what the clock shows at these readings of the steady clock and the wall clock |
+//! | `names|HOST|LINE / LINE` | the addresses of a name, if the file of hosts has these lines |
 //! | `tries|ADDRESS|..` | to which of these addresses a link tries to connect, over a network in memory |
 //! | `machine|CALL` | the answers of the clock, the random words, a door or a link of this machine |
 //!
@@ -23,7 +24,7 @@
 //! | `outside` | the calls `write` and `fetch`: sinks and shelves in memory, some of whose calls fail |
 //! | `process` | the calls `writer` and `words` |
 //! | `hands` | the call `clock`: a clock over two clocks that are set by hand |
-//! | `network` | the call `tries`: a link over a network in memory |
+//! | `network` | the calls `names` and `tries`: the names of a file of hosts, and a link over a network in memory |
 //! | `this_machine`, `loopback` | the call `machine` |
 #![tactic(auto)]
 
@@ -73,6 +74,7 @@ impl Cases for OutsideCases {
             ["writer", call] => process::writer(alloc, call),
             ["words", words @ ..] => process::words(alloc, words),
             ["clock", readings @ ..] => hands::shows(alloc, readings),
+            ["names", host, lines] => network::names(alloc, host, lines),
             ["tries", addresses @ ..] => network::tries(alloc, addresses),
             _ => answer_http(alloc, fields),
         }

@@ -2,8 +2,8 @@
 
 use crate::loopback::told_closed;
 use case_lines::{or_else, push_part};
-use platform::TcpLink;
-use sso_base::{NoMemory, Text};
+use platform::{Names, TcpLink};
+use sso_base::{Blob, NoMemory, Text};
 use std::alloc::Global;
 use std::io;
 use std::io::ErrorKind;
@@ -18,7 +18,7 @@ struct Known {
     tried: AtomicU64,
 }
 
-// A network on which each name has these addresses, and nobody takes a connection. The time of its clock never changes.
+// A network with these addresses, on which nobody takes a connection, and nobody knows a name. The time of its clock never changes.
 #[derive(Drop)]
 struct Network {
     alloc: Global,
@@ -45,14 +45,6 @@ impl Net for Network {
 
     fn connect_timeout(&self, addr: SocketAddr, _timeout: Duration) -> io::Result<TcpStream> {
         self.connect(addr)
-    }
-
-    fn lookup_host(&self, _host: &str, _port: u16, found: &mut [SocketAddr]) -> io::Result<usize> {
-        let count = found.len().min(self.known.len());
-        for place in 0..count {
-            found[place] = self.known[place].address;
-        }
-        Ok(count)
     }
 }
 
@@ -104,13 +96,37 @@ fn told_tried(alloc: Global, network: &Network) -> Result<String, NoMemory> {
     or_else(out, "none")
 }
 
+// A file of hosts in which a name has the addresses of this network.
+fn hosts_in(alloc: Global, network: &Network) -> Result<Blob, NoMemory> {
+    let mut hosts = String::new(alloc);
+    for known in &network.known {
+        let line = format!(in alloc; "{} op.example\n", known.address.ip())?;
+        hosts.push_str(line.as_str())?;
+    }
+    Blob::new(alloc, hosts.as_str().as_bytes())
+}
+
+/// `names|HOST|LINE / LINE`: the addresses of a name, if the file of hosts has these lines.
+pub fn names(alloc: Global, host: &str, lines: &str) -> Result<String, NoMemory> {
+    let text = lines.replace(alloc, " / ", "\n")?;
+    let names = Names::new(Blob::new(alloc, text.as_str().as_bytes())?);
+    let mut out = String::new(alloc);
+    let known = names.addresses(alloc, host)?;
+    for address in known.as_slice() {
+        let told = format!(in alloc; "{address}")?;
+        push_part(&mut out, ", ", told.as_str())?;
+    }
+    or_else(out, "none")
+}
+
 /// `tries|ADDRESS|..`: a link sends to a name with these addresses, on a network where nobody takes a connection. The answer is
 /// what the link returns, its number of failures before and after, and the addresses to which it tried to connect, each with
 /// the number of times.
 pub fn tries(alloc: Global, fields: &[&str]) -> Result<String, NoMemory> {
     let network = network_in(alloc, fields)?;
     let place = Text::new(alloc, "op.example:80")?;
-    let mut link = TcpLink::new(&network);
+    let names = Names::new(hosts_in(alloc, &network)?);
+    let mut link = TcpLink::new(&network, names);
     let told = told_closed(alloc, &mut link, &place)?;
     let tried = told_tried(alloc, &network)?;
     Ok(format!(in alloc; "{} / tried {}", told.as_str(), tried.as_str())?)

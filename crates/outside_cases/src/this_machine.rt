@@ -49,6 +49,7 @@ where
         "unread" => loopback::unread(rt, alloc),
         "large" => loopback::large(rt, alloc),
         "link" => loopback::link(rt, alloc),
+        "open" => loopback::open(rt, alloc),
         "elsewhere" => loopback::elsewhere(rt, alloc),
         _ => told(alloc, "no such call"),
     }

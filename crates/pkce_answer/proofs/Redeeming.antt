@@ -33,8 +33,8 @@ use Rattle.pkce_answer.specs.declared.asks.PkceReply.{PkceReply}
 use Rattle.pkce_answer.specs.declared.asks.PkceReply.TheVariants.{Through, Own}
 use Rattle.pkce_answer.specs.Challenges.{Digest, challenge_of, asked_mark, IsPkceAsk}
 use Rattle.pkce_answer.specs.Around.{Outer, pair_inside, passed, inner_history, outer_plain, outer_told, outer_given, outer_weight}
-use Rattle.pkce_answer.specs.Answering.{token_refusal, IsReply, refusal_by, pkce_answer, IsPkceReply, IsLegalPkce}
-use Rattle.pkce_answer.specs.Laws.{Fits, WasAsked, IsRedeemed}
+use Rattle.pkce_answer.specs.Answering.{token_refusal, IsReply, code_challenge, refusal_by, pkce_answer, IsPkceReply, IsLegalPkce}
+use Rattle.pkce_answer.specs.Laws.{Fits, IsOnlyVerifier, WasAsked, IsRedeemed}
 use Rattle.pkce_answer.proofs.Refusing.{pkce_is_around, last_answered, last_inside, outer_refusals}
 
 -- ---- a verifier that is not refused
@@ -52,10 +52,10 @@ fits_by None (verifier.Given text) h = cc
 fits_by None verifier.Absent h = refl
 
 -- the verifier of a challenge that one text alone has
-pub only_text : (sent : Verifier) (text : List ℕ) → Fits (Some (challenge_of text)) sent → ((other : List ℕ) → challenge_of other ≡ challenge_of text → other ≡ text) → sent ≡ verifier.Given text
+only_text : (sent : Verifier) (text : List ℕ) → Fits (Some (challenge_of text)) sent → ((other : List ℕ) → sent ≡ verifier.Given other → challenge_of other ≡ challenge_of text → other ≡ text) → sent ≡ verifier.Given text
 only_text sent text fits alone =
     let G : List ℕ → Verifier = λ t. verifier.Given t in
-    fits.1 ∙ ap G (alone fits.0 fits.2)
+    fits.1 ∙ ap G (alone fits.0 fits.1 fits.2)
 
 -- what was passed on was not refused
 not_refused : {R : Type 0} (given : R → Option OpReply) (refused : Option OpReply) (reply : PkceReply R) (r : OpReply) → IsReply refused reply → outer_given given reply ≡ Some r → refused ≡ None
@@ -127,10 +127,20 @@ module _ {A R S : Type 0} (plain : A → Option OpAsk) (given : R → Option OpR
       not_refused given (pkce_answer plain given (reverse h) p.entry.at p.entry.ask) p.reply r (last_answered plain given IsAsk weighs most IsLegalInner s h p legal) gave in
       let B : Option OpAsk → Option OpReply = λ o. refusal_by plain given (reverse h) p.entry.at p.entry.ask.challenge p.entry.ask.verifier o in
       let I : Option (CodeMark (Option Digest)) → Option OpReply = λ o. token_refusal (mark_in_code None o) p.entry.ask.verifier in
+      let K : Option (CodeMark (Option Digest)) → Option Digest = λ o. mark_in_code None o in
       record {
         code = cause.code;
         held = cause.held;
         challenge = found.0.mark;
         asked = found.2.2;
+        known = ap K found.1;
         fits = fits_by found.0.mark p.entry.ask.verifier (sym (ap I found.1) ∙ sym (ap B asked) ∙ none);
       }
+
+-- the verifier of a redemption, if no other verifier of the history has the challenge of the code
+pub only_verifier : {A R : Type 0} (plain : A → Option OpAsk) (given : R → Option OpReply) (past : List (Outer A R)) (before : List OpPair) (p : Outer A R) (grant : Grant) (text : List ℕ)
+    → IsRedeemed plain given past before p.entry grant → code_challenge plain given past p.entry.at (word_of_text grant.code) ≡ Some (challenge_of text) → IsOnlyVerifier (p ∷ past) text
+    → p.entry.ask.verifier ≡ verifier.Given text
+only_verifier plain given past before p grant text redeemed asked alone =
+    let F : Option Digest → Type 0 = λ d. Fits d p.entry.ask.verifier in
+    only_text p.entry.ask.verifier text (subst F (sym redeemed.known ∙ asked) redeemed.fits) alone.1

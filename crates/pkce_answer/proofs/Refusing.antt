@@ -14,10 +14,11 @@ use Rattle.op_exchange.specs.declared.ask.OpAsk.{OpAsk}
 use Rattle.op_exchange.specs.declared.ask.OpAsk.TheVariants as ask
 use Rattle.op_exchange.specs.declared.reply.OpReply.{OpReply}
 use Rattle.op_exchange.specs.declared.reply.OpReply.TheVariants.{TokenRefused, SignedOut}
+use Rattle.op_answer.specs.Past.{OpPair}
 use Rattle.op_answer.proofs.KeptNames.{some_same}
-use Rattle.core_stack.specs.Stacks.{may_be_own}
+use Rattle.core_stack.specs.Stacks.{may_be_own, AreNotices}
 use Rattle.core_stack.specs.Stacked.{AreAnswered, IsAround}
-use Rattle.core_stack.proofs.Stacking.{legal_inside}
+use Rattle.core_stack.proofs.Stacking.{legal_inside, outer_notices_are}
 use Rattle.pkce_answer.specs.declared.asks.Challenge.{Challenge}
 use Rattle.pkce_answer.specs.declared.asks.Challenge.TheVariants as challenge
 use Rattle.pkce_answer.specs.declared.asks.Verifier.{Verifier}
@@ -106,6 +107,22 @@ passed_is e (Own own) q is = cc
 none_given : {A R : Type 0} (given : R → Option OpReply) (e : Entry (PkceAsk A)) (reply : PkceReply R) → passed_by e reply ≡ None → outer_given given reply ≡ None
 none_given given e (Through x) none = cc
 none_given given e (Own own) none = refl
+
+none_noted : {A R : Type 0} (notices : R → Option (List Message)) (e : Entry (PkceAsk A)) (reply : PkceReply R) → passed_by e reply ≡ None → outer_notices notices reply ≡ None
+none_noted notices e (Through x) none = cc
+none_noted notices e (Own own) none = refl
+
+-- the messages of a reply are those of the inner core's reply
+pub outer_notices_tell : {A R : Type 0} (notices : R → Option (List Message)) (provided : List (Pair A R) → List OpPair) (h : List (Outer A R)) (p : Outer A R)
+    → ((q : Pair A R) → passed p ≡ Some q → AreNotices (notices q.reply) (provided (inner_history h)) (provided (inner_history h ++ q ∷ [])))
+    → AreNotices (outer_notices notices p.reply) (provided (inner_history h)) (provided (inner_history (h ++ p ∷ [])))
+outer_notices_tell {A} {R} notices provided h p inner =
+    let N : PkceReply R → Option (List Message) = λ y. outer_notices notices y in
+    let Q : Pair A R → Option (List Message) = λ y. notices y.reply in
+    outer_notices_are passed provided (outer_notices notices p.reply) h p (λ none. none_noted notices p.entry p.reply none)
+    (λ q is. let i = passed_is p.entry p.reply q is in
+    let T : Option (List Message) → Type 0 = λ o. AreNotices o (provided (inner_history h)) (provided (inner_history h ++ q ∷ [])) in
+    subst T (ap Q i.2 ∙ sym (ap N i.1)) (inner q is))
 
 pub passed_moment : {A R : Type 0} (p : Outer A R) (q : Pair A R) → passed p ≡ Some q → q.entry.at ≡ p.entry.at
 passed_moment {A} {R} p q is = let F : Pair A R → ℕ = λ x. x.entry.at in ap F (passed_is p.entry p.reply q is).2

@@ -27,7 +27,7 @@ digest = replicate 43 97
 needs_a_verifier : token_refusal (Some digest) verifier.Absent ≡ Some (TokenRefused InvalidGrant)
 needs_a_verifier = refl
 
-takes_its_verifier : (text : List ℕ) → token_refusal (Some (challenge_of text)) (verifier.Given text) ≡ None
+pub takes_its_verifier : (text : List ℕ) → token_refusal (Some (challenge_of text)) (verifier.Given text) ≡ None
 takes_its_verifier text =
     let C : Bool → Option OpReply = λ b. cond b None (Some (TokenRefused InvalidGrant)) in
     ap C (bytes_true (challenge_of text) (challenge_of text) refl)

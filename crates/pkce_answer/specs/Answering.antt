@@ -1,6 +1,6 @@
 -- The replies of the core (RFC 7636, 4.4 to 4.6). It stands around an inner core, whose requests and replies are A and R. `plain` gives
 -- the provider's request in a request, and `given` the reply that the provider gave.
-use Rattle.std.specs.Prelude.{◌≡◌, ℕ, Bool, true, false, List, Option, Some, None, Ok, if◌then◌else◌}
+use Rattle.std.specs.Prelude.{◌≡◌, ℕ, Bool, true, false, List, reverse, Option, Some, None, Ok, if◌then◌else◌}
 use Rattle.std.specs.Str.{bytes_eq}
 use Rattle.sso_base.specs.Words.{Word, word_of_text}
 use Rattle.sso_base.specs.declared.history.Entry.{Entry}
@@ -8,6 +8,7 @@ use Rattle.sso_base.specs.declared.history.Pair.{Pair}
 use Rattle.oidc_words.specs.Types.{is_in_fragment}
 use Rattle.oidc_words.specs.declared.errors.Refusal.{Refusal}
 use Rattle.oidc_words.specs.declared.errors.AuthError.TheVariants as auth_error
+use Rattle.client_registry.specs.Configuration.{Configuration}
 use Rattle.auth_request.specs.declared.wish.Wish.{Wish}
 use Rattle.auth_request.specs.declared.wish.Verdict.TheVariants.{Grant}
 use Rattle.token_endpoint.specs.declared.error.TokenError.TheVariants as token_error
@@ -15,8 +16,9 @@ use Rattle.op_exchange.specs.declared.ask.OpAsk.{OpAsk}
 use Rattle.op_exchange.specs.declared.ask.OpAsk.TheVariants.{Authorize, Token}
 use Rattle.op_exchange.specs.declared.reply.OpReply.{OpReply}
 use Rattle.op_exchange.specs.declared.reply.OpReply.TheVariants.{Refused, TokenRefused}
+use Rattle.op_answer.specs.Past.{OpPair}
 use Rattle.core_stack.specs.Marks.{mark_in_code, marked_code}
-use Rattle.core_stack.specs.Stacked.{IsLegalStack}
+use Rattle.core_stack.specs.Stacked.{AreAnswered, IsLegalStack, IsProvided}
 use Rattle.pkce_answer.specs.declared.asks.Challenge.{Challenge}
 use Rattle.pkce_answer.specs.declared.asks.Challenge.TheVariants as challenge
 use Rattle.pkce_answer.specs.declared.asks.Verifier.{Verifier}
@@ -25,7 +27,7 @@ use Rattle.pkce_answer.specs.declared.asks.PkceAsk.{PkceAsk}
 use Rattle.pkce_answer.specs.declared.asks.PkceReply.{PkceReply}
 use Rattle.pkce_answer.specs.declared.asks.PkceReply.TheVariants.{Through, Own}
 use Rattle.pkce_answer.specs.Challenges.{Digest, challenge_of, asked_mark, IsPkceAsk}
-use Rattle.pkce_answer.specs.Around.{Outer, passed, outer_plain, outer_given, outer_weight}
+use Rattle.pkce_answer.specs.Around.{Outer, passed, inner_history, outer_plain, outer_given, outer_weight}
 
 -- ---- which requests are refused
 
@@ -80,3 +82,11 @@ abbrev pub IsLegalPkce : {A R S : Type 0} → (A → Option OpAsk) → (R → Op
     → (S → List (Pair A R) → Type 0) → S → List (Outer A R) → Type 0
 IsLegalPkce plain given IsAsk weighs most IsLegalInner s h =
     IsLegalStack (IsPkceAsk IsAsk) (IsPkceReply plain given) passed (outer_weight weighs) most IsLegalInner s h
+
+-- A history, oldest pair first, whatever it weighs: its replies are those of this core, and over what was passed on the provider's history
+-- is legal. `told` gives the provider's reply in a reply, whoever gave it, and `provided` the provider's history.
+pub record IsPkceHistory
+    {A R : Type 0} (plain : A → Option OpAsk) (told given : R → Option OpReply) (provided : List (Pair A R) → List OpPair)
+    (IsAsk : A → Type 0) (c : Configuration) (h : List (Outer A R)) : Type 0 where
+  pub answered : AreAnswered (IsPkceAsk IsAsk) (IsPkceReply plain given) (reverse h)
+  pub inner : IsProvided plain told given provided c (inner_history h)

@@ -23,6 +23,13 @@ abbrev pub Fits : Option Digest → Verifier → Type 0
 Fits (Some digest) sent = (text : List ℕ) × (sent ≡ Given text) × (challenge_of text ≡ digest)
 Fits None sent = sent ≡ Absent
 
+-- each verifier of a past that has the challenge of this text is this text
+abbrev pub IsOnlyVerifier : {A R : Type 0} → List (Outer A R) → List ℕ → Type 0
+IsOnlyVerifier [] text = Unit {0}
+IsOnlyVerifier (p ∷ past) text =
+    IsOnlyVerifier past text
+    × ((other : List ℕ) → p.entry.ask.verifier ≡ Given other → challenge_of other ≡ challenge_of text → other ≡ text)
+
 -- no pair of a past, newest pair first, drew a word that an earlier pair drew
 abbrev pub HasNewWords : {A R : Type 0} → List (Pair A R) → Type 0
 HasNewWords [] = Unit {0}
@@ -42,4 +49,5 @@ module _ {A R : Type 0} (plain : A → Option OpAsk) (given : R → Option OpRep
     pub held : held_code (reverse before) e.at (word_of_text grant.code) ≡ Some code
     pub challenge : Option Digest
     pub asked : CodeAsked (outer_plain plain) (outer_given given) asked_mark past code.word challenge code.wish
+    pub known : code_challenge plain given past e.at (word_of_text grant.code) ≡ challenge
     pub fits : Fits challenge e.ask.verifier

@@ -19,5 +19,5 @@ mod law;
 pub use asks::{Challenge, PkceAsk, PkceParts, PkceReply, Verifier};
 pub use law::{
     challenges_stand, codes_answer_one_request, codes_keep_their_challenge,
-    codes_need_their_verifier,
+    codes_need_their_verifier, legal_histories_are_answered,
 };

@@ -60,7 +60,7 @@ impl<P: Provides> Provides for PkceCore<P> {
     ghost use Rattle.pkce_answer.specs.Challenges.{IsPkceAsk};
     ghost use Rattle.pkce_answer.specs.Around.{passed, inner_history, outer_plain, outer_told, outer_given, outer_notices, outer_weight};
     ghost use Rattle.pkce_answer.specs.Answering.{IsPkceReply};
-    ghost use Rattle.pkce_answer.proofs.Refusing.{pkce_is_around, outer_given_told, outer_refusals, outer_signs_out};
+    ghost use Rattle.pkce_answer.proofs.Refusing.{pkce_is_around, outer_given_told, outer_refusals, outer_signs_out, outer_notices_tell};
 
     ghost provider_registry = { λ x. P.provider_registry x.inner };
 
@@ -164,6 +164,12 @@ impl<P: Provides> Provides for PkceCore<P> {
 
     ghost signs_out = { λ s h p w legal asked. outer_signs_out P.plain_ask P.given_reply P.IsAsk P.weighs P.most P.is_legal s h p P.notices w legal asked
         (λ q inside plain. P.signs_out s (inner_history h) q w inside plain) };
+
+    ghost notices_are = { λ s h p legal. outer_notices_tell P.notices P.provided h p
+        (λ q is. P.notices_are s (inner_history h) q
+        (legal_inside (IsPkceAsk P.IsAsk) (IsPkceReply P.plain_ask P.given_reply) passed (outer_weight P.weighs) P.most P.is_legal s h p q is legal)) };
+
+    ghost reads_requests = { λ c request a same. P.reads_requests c request a same };
 
     ghost plain_of = { P.plain_of };
 }

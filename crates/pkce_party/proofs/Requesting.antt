@@ -35,24 +35,24 @@ use Rattle.pkce_answer.specs.Challenges.{challenge_of}
 use Rattle.pkce_party.specs.declared.rows.VerifierRow.{VerifierRow}
 use Rattle.pkce_party.specs.declared.reply.PartyReply.{PartyReply}
 use Rattle.pkce_party.specs.Verifiers.{verifier_name, verifier_begun, row_drawn, if_begun, verifiers, live_verifier, word_held}
-use Rattle.pkce_party.specs.Adding.{PartyPair, PartyPast, challenge_for, verifier_for, party_reply, inner_pair, inner_past, party_answer, IsLegalParty}
+use Rattle.pkce_party.specs.Adding.{PartyPair, PartyPast, challenge_for, verifier_for, party_reply, inner_pair, inner_past, party_answer, IsLegalPartyPast}
 use Rattle.pkce_party.specs.Laws.{IsAmong, IsOfLogin}
 use Rattle.pkce_party.proofs.Together.{MadeOnce, Beside, beside, together}
 
 -- ---- a pair of a legal history
 
 -- its reply is the answer, and the pairs before it are legal
-answered : (s : PartySetup) (history : List PartyPair) (later earlier : PartyPast) (p : PartyPair) → IsLegalParty s history → IsAmong history later p earlier
+answered : (s : PartySetup) (history : List PartyPair) (later earlier : PartyPast) (p : PartyPair) → IsLegalPartyPast s (reverse history) → IsAmong history later p earlier
     → p.reply ≡ party_answer s earlier p.entry
 answered s history later earlier p legal among =
     let L : PartyPast → Type 0 = λ past. IsLegalBy IsRpAsk (party_answer s) past in
-    legal_reply IsRpAsk (party_answer s) later earlier p (subst L among legal.past)
+    legal_reply IsRpAsk (party_answer s) later earlier p (subst L among legal)
 
-before_is_legal : (s : PartySetup) (history : List PartyPair) (later earlier : PartyPast) (p : PartyPair) → IsLegalParty s history
+before_is_legal : (s : PartySetup) (history : List PartyPair) (later earlier : PartyPast) (p : PartyPair) → IsLegalPartyPast s (reverse history)
     → IsAmong history later p earlier → IsLegalBy IsRpAsk (party_answer s) earlier
 before_is_legal s history later earlier p legal among =
     let L : PartyPast → Type 0 = λ past. IsLegalBy IsRpAsk (party_answer s) past in
-    (earlier_is_legal IsRpAsk (party_answer s) later (p ∷ earlier) (subst L among legal.past)).0
+    (earlier_is_legal IsRpAsk (party_answer s) later (p ∷ earlier) (subst L among legal)).0
 
 -- ---- by what an addition comes
 
@@ -119,7 +119,7 @@ challenge_drawn s past e told to browser answered asks code =
     ap W code ∙ ap R asks ∙ ap A begun.is
 
 pub have_a_challenge : (s : PartySetup) (history : List PartyPair) (later earlier : PartyPast) (p : PartyPair) (to : Text) (browser : Word)
-    → IsLegalParty s history → IsAmong history later p earlier
+    → IsLegalPartyPast s (reverse history) → IsAmong history later p earlier
     → (party_of s).types.code ≡ true → p.reply.inner ≡ reply.Ask to browser → p.reply.challenge ≡ Some (challenge_of (word_text (fresh_word p.entry.fresh 3)))
 have_a_challenge s history later earlier p to browser legal among code asks =
     let is : p.reply ≡ party_answer s earlier p.entry = answered s history later earlier p legal among in
@@ -128,7 +128,7 @@ have_a_challenge s history later earlier p to browser legal among code asks =
     ap (λ (r : PartyReply). r.challenge) is
     ∙ challenge_drawn s past p.entry told to browser refl (sym (ap (λ (r : PartyReply). r.inner) is) ∙ asks) code
 
-pub only_with_a_challenge : (s : PartySetup) (history : List PartyPair) (later earlier : PartyPast) (p : PartyPair) (challenge : Text) → IsLegalParty s history
+pub only_with_a_challenge : (s : PartySetup) (history : List PartyPair) (later earlier : PartyPast) (p : PartyPair) (challenge : Text) → IsLegalPartyPast s (reverse history)
     → IsAmong history later p earlier
     → p.reply.challenge ≡ Some challenge → (to : Text) × (browser : Word) × (p.reply.inner ≡ reply.Ask to browser)
 only_with_a_challenge s history later earlier p challenge legal among has =
@@ -151,7 +151,7 @@ record Sends (s : PartySetup) (past : RpPast) (e : Entry RpAsk) (verifier : Text
   held_is : word_held past e.at e.ask ≡ Some word
   verifier_is : verifier ≡ word_text word
 
-sends : (s : PartySetup) (history : List PartyPair) (later earlier : PartyPast) (p : PartyPair) (verifier : Text) → IsLegalParty s history
+sends : (s : PartySetup) (history : List PartyPair) (later earlier : PartyPast) (p : PartyPair) (verifier : Text) → IsLegalPartyPast s (reverse history)
     → IsAmong history later p earlier → p.reply.verifier ≡ Some verifier
     → Sends s (inner_past earlier) p.entry verifier
 sends s history later earlier p verifier legal among has =
@@ -171,7 +171,7 @@ sends s history later earlier p verifier legal among has =
       verifier_is = by.verifier_is;
     }
 
-pub only_with_a_verifier : (s : PartySetup) (history : List PartyPair) (later earlier : PartyPast) (p : PartyPair) (verifier : Text) → IsLegalParty s history
+pub only_with_a_verifier : (s : PartySetup) (history : List PartyPair) (later earlier : PartyPast) (p : PartyPair) (verifier : Text) → IsLegalPartyPast s (reverse history)
     → IsAmong history later p earlier
     → p.reply.verifier ≡ Some verifier → (w : Word) × (message : Message) × (p.reply.inner ≡ reply.Exchange w message)
 only_with_a_verifier s history later earlier p verifier legal among has =
@@ -257,7 +257,7 @@ held_for s past e x =
     ap W (ap A x.responds ∙ ap S x.state_is ∙ ap F x.found ∙ ap C x.living)
 
 pub have_a_verifier : (s : PartySetup) (history : List PartyPair) (later earlier : PartyPast) (p : PartyPair) (w : Word) (message : Message)
-    → IsLegalParty s history → IsAmong history later p earlier
+    → IsLegalPartyPast s (reverse history) → IsAmong history later p earlier
     → p.reply.inner ≡ reply.Exchange w message → (verifier : Text) × (p.reply.verifier ≡ Some verifier)
 have_a_verifier s history later earlier p w message legal among sent =
     let is : p.reply ≡ party_answer s earlier p.entry = answered s history later earlier p legal among in
@@ -333,7 +333,7 @@ outside (p ∷ past) (q ∷ later) maker earlier h =
     let rest : Outside past maker = outside past later maker earlier (ap (λ (l : RpPast). tail_of l) h) in
     record { later = p ∷ rest.later; pair = rest.pair; earlier = rest.earlier; parts = ap (λ (l : PartyPast). p ∷ l) rest.parts; pair_is = rest.pair_is }
 
-pub of_its_login : (s : PartySetup) (history : List PartyPair) (later earlier : PartyPast) (p : PartyPair) (verifier : Text) → IsLegalParty s history
+pub of_its_login : (s : PartySetup) (history : List PartyPair) (later earlier : PartyPast) (p : PartyPair) (verifier : Text) → IsLegalPartyPast s (reverse history)
     → IsAmong history later p earlier → p.reply.verifier ≡ Some verifier
     → IsOfLogin earlier p.entry verifier
 of_its_login s history later earlier p verifier legal among has =
@@ -377,7 +377,7 @@ of_its_login s history later earlier p verifier legal among has =
           ∙ ap (λ (t : Text). Some (challenge_of t)) (sym drawn);
     }
 
-pub tell_their_words : (s : PartySetup) (history : List PartyPair) (v w : Word) → IsLegalParty s history → IsDrawn (reverse history) v
+pub tell_their_words : (s : PartySetup) (history : List PartyPair) (v w : Word) → IsLegalPartyPast s (reverse history) → IsDrawn (reverse history) v
     → IsDrawn (reverse history) w → v ≢ w → word_text v ≢ word_text w
 tell_their_words s history v w legal one other different same =
-    different (texts_tell_words IsRpAsk (party_answer s) (reverse history) v w legal.past one other same)
+    different (texts_tell_words IsRpAsk (party_answer s) (reverse history) v w legal one other same)

@@ -135,7 +135,7 @@ exchanged = record { entry = callback_entry 1000 (word 1); reply = party_reply o
 
 -- the verifier of its token request is the one whose challenge its authorization request had
 verifier-of_its_login : IsOfLogin (begun ∷ []) exchanged.entry (word_text (word 4))
-verifier-of_its_login = of_its_login shop_setup (pairs_of party) [] (begun ∷ []) exchanged (word_text (word 4)) history_is_legal refl refl
+verifier-of_its_login = of_its_login shop_setup (pairs_of party) [] (begun ∷ []) exchanged (word_text (word 4)) history_is_legal.past refl refl
 
 -- ---- what is sent
 

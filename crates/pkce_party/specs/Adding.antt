@@ -2,6 +2,7 @@
 -- the party inside; two of its replies get an addition.
 use Rattle.std.specs.Prelude.{List, map, Option, None, option_map}
 use Rattle.sso_base.specs.Words.{Word, Text, word_text}
+use Rattle.sso_base.specs.Legal.{IsLegalBy}
 use Rattle.sso_base.specs.Journal.{most_of, IsLegalHistoryBy}
 use Rattle.sso_base.specs.declared.history.Entry.{Entry}
 use Rattle.sso_base.specs.declared.history.Pair.{Pair}
@@ -67,6 +68,10 @@ inner_history history = map inner_pair history
 -- the answer of the party inside, with the additions
 abbrev pub party_answer : PartySetup → PartyPast → Entry RpAsk → PartyReply
 party_answer s past e = party_reply (party_of s).types (inner_past past) e (rp_answer s (inner_past past) e)
+
+-- a past, newest first, whose replies are the answers, whatever it weighs
+abbrev pub IsLegalPartyPast : PartySetup → PartyPast → Type 0
+IsLegalPartyPast s past = IsLegalBy IsRpAsk (party_answer s) past
 
 -- a history, oldest first, whose replies are the answers, and that weighs no more than the limit of the configuration
 abbrev pub IsLegalParty : PartySetup → List PartyPair → Type 0

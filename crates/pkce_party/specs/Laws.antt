@@ -14,7 +14,7 @@ use Rattle.rp_exchange.specs.declared.reply.RpReply.TheVariants as reply
 use Rattle.rp_answer.specs.Setup.{PartySetup, party_of}
 use Rattle.pkce_answer.specs.Challenges.{challenge_of}
 use Rattle.pkce_party.specs.declared.reply.PartyReply.{PartyReply}
-use Rattle.pkce_party.specs.Adding.{PartyPair, PartyPast, IsLegalParty}
+use Rattle.pkce_party.specs.Adding.{PartyPair, PartyPast, IsLegalPartyPast}
 use Rattle.pkce_party.specs.Telling.{challenge_added, party_http, verifier_added, party_sending}
 
 -- this pair is in the history, after these earlier pairs and before these later ones
@@ -26,14 +26,14 @@ IsAmong history later p earlier = reverse history ≡ later ++ p ∷ earlier
 abbrev pub AuthorizationRequestsHaveAChallenge : Type 0
 AuthorizationRequestsHaveAChallenge =
     (s : PartySetup) (history : List PartyPair) (later earlier : PartyPast) (p : PartyPair) (to : Text) (browser : Word)
-    → IsLegalParty s history → IsAmong history later p earlier → (party_of s).types.code ≡ true → p.reply.inner ≡ reply.Ask to browser
+    → IsLegalPartyPast s (reverse history) → IsAmong history later p earlier → (party_of s).types.code ≡ true → p.reply.inner ≡ reply.Ask to browser
     → p.reply.challenge ≡ Some (challenge_of (word_text (fresh_word p.entry.fresh 3)))
 
 -- no other reply has one
 abbrev pub ChallengesAreInAuthorizationRequests : Type 0
 ChallengesAreInAuthorizationRequests =
     (s : PartySetup) (history : List PartyPair) (later earlier : PartyPast) (p : PartyPair) (challenge : Text)
-    → IsLegalParty s history → IsAmong history later p earlier → p.reply.challenge ≡ Some challenge
+    → IsLegalPartyPast s (reverse history) → IsAmong history later p earlier → p.reply.challenge ≡ Some challenge
     → (to : Text) × (browser : Word) × (p.reply.inner ≡ reply.Ask to browser)
 
 -- ---- token requests
@@ -41,14 +41,14 @@ ChallengesAreInAuthorizationRequests =
 abbrev pub TokenRequestsHaveAVerifier : Type 0
 TokenRequestsHaveAVerifier =
     (s : PartySetup) (history : List PartyPair) (later earlier : PartyPast) (p : PartyPair) (w : Word) (message : Message)
-    → IsLegalParty s history → IsAmong history later p earlier → p.reply.inner ≡ reply.Exchange w message
+    → IsLegalPartyPast s (reverse history) → IsAmong history later p earlier → p.reply.inner ≡ reply.Exchange w message
     → (verifier : Text) × (p.reply.verifier ≡ Some verifier)
 
 -- no other reply has one
 abbrev pub VerifiersAreInTokenRequests : Type 0
 VerifiersAreInTokenRequests =
     (s : PartySetup) (history : List PartyPair) (later earlier : PartyPast) (p : PartyPair) (verifier : Text)
-    → IsLegalParty s history → IsAmong history later p earlier → p.reply.verifier ≡ Some verifier
+    → IsLegalPartyPast s (reverse history) → IsAmong history later p earlier → p.reply.verifier ≡ Some verifier
     → (w : Word) × (message : Message) × (p.reply.inner ≡ reply.Exchange w message)
 
 -- An authorization response has the state of a login. The pair that began the login drew the verifier, and its authorization request
@@ -75,12 +75,12 @@ pub record IsOfLogin (past : PartyPast) (e : Entry RpAsk) (verifier : Text) : Ty
 abbrev pub VerifiersAreOfTheirLogin : Type 0
 VerifiersAreOfTheirLogin =
     (s : PartySetup) (history : List PartyPair) (later earlier : PartyPast) (p : PartyPair) (verifier : Text)
-    → IsLegalParty s history → IsAmong history later p earlier → p.reply.verifier ≡ Some verifier
+    → IsLegalPartyPast s (reverse history) → IsAmong history later p earlier → p.reply.verifier ≡ Some verifier
     → IsOfLogin earlier p.entry verifier
 
 abbrev pub VerifiersTellTheirWords : Type 0
 VerifiersTellTheirWords =
-    (s : PartySetup) (history : List PartyPair) (v w : Word) → IsLegalParty s history → IsDrawn (reverse history) v
+    (s : PartySetup) (history : List PartyPair) (v w : Word) → IsLegalPartyPast s (reverse history) → IsDrawn (reverse history) v
     → IsDrawn (reverse history) w → v ≢ w → word_text v ≢ word_text w
 
 -- ---- what is sent

@@ -6,9 +6,9 @@ ghost use Rattle.sso_base.specs.Rows.{row_of};
 ghost use Rattle.sso_base.specs.Stands.{Stands};
 ghost use Rattle.rp_answer.specs.Past.{RpPast};
 ghost use Rattle.rp_answer.specs.Setup.{PartySetup};
-ghost use Rattle.rp_answer.specs.Legal.{IsLegalHistory};
+ghost use Rattle.rp_answer.specs.Legal.{IsLegalRp, IsLegalHistory};
 ghost use Rattle.pkce_party.specs.declared.rows.VerifierRow.{VerifierRow as Row};
-ghost use Rattle.pkce_party.specs.Adding.{PartyPair, inner_history, IsLegalParty};
+ghost use Rattle.pkce_party.specs.Adding.{PartyPair, PartyPast, inner_past, inner_history, IsLegalPartyPast, IsLegalParty};
 ghost use Rattle.pkce_party.specs.Verifiers.{verifier_name, verifier_made, verifier_kept, verifiers};
 ghost use Rattle.pkce_party.specs.Laws.{AuthorizationRequestsHaveAChallenge, ChallengesAreInAuthorizationRequests};
 ghost use Rattle.pkce_party.specs.Laws.{TokenRequestsHaveAVerifier, VerifiersAreInTokenRequests, VerifiersAreOfTheirLogin};
@@ -21,10 +21,11 @@ pub fn rows_stand()
         → (row_of verifier_name state (verifiers past) ≡ Some row) ↔ Stands verifier_name verifier_made verifier_kept past state row }
 {}
 
-/// The party's history in a legal history is legal for the party. So all that is proved of a relying party is true of the party
-/// inside.
+/// The party's history in a legal history is legal for the party, whatever it weighs, and within the limit if the history is. So all
+/// that is proved of a relying party is true of the party inside.
 pub fn inner_histories_are_legal()
-    ensures { (s : PartySetup) (h : List PartyPair) → IsLegalParty s h → IsLegalHistory s (inner_history h) }
+    ensures past { (s : PartySetup) (past : PartyPast) → IsLegalPartyPast s past → IsLegalRp s (inner_past past) }
+    ensures history { (s : PartySetup) (h : List PartyPair) → IsLegalParty s h → IsLegalHistory s (inner_history h) }
 {}
 
 /// In any legal history of a party whose response type has a code, each authorization request has the challenge of the verifier

@@ -11,6 +11,7 @@
 //! | `door` | [`TcpDoor`], a TCP listener as a door |
 //! | `connection` | a TCP connection as a source and a sink |
 //! | `link` | [`TcpLink`], TCP as a link, to loopback addresses only |
+//! | `names` | [`Names`], the names that this machine knows by itself |
 //! | `clock` | [`SystemClock`], the machine's steady clock and its wall clock as a clock |
 //! | `draw` | [`RandomDraw`], a random generator as a draw |
 //! | `wire` | a TCP stream that a source and a sink share, within limits in time |
@@ -51,6 +52,7 @@ mod door;
 mod draw;
 mod limit;
 mod link;
+mod names;
 mod read_ahead;
 mod shelf;
 mod sink;
@@ -63,6 +65,7 @@ pub use desks::desk;
 pub use door::TcpDoor;
 pub use draw::RandomDraw;
 pub use link::TcpLink;
+pub use names::Names;
 pub use shelf::FileShelf;
 pub use sink::WriterSink;
 pub use words::read_words;

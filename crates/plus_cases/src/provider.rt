@@ -1,6 +1,6 @@
 // The provider of a run.
 
-use crate::configured::{configured, configured_lasting};
+use crate::configured::{configured, configured_full, configured_lasting};
 use case_lines::{Run, request, told};
 use client_registry::{RegNo, Registry, read_registry};
 use core_stack::Provides;
@@ -82,13 +82,21 @@ impl<P: Begins> Provider<P> {
     }
 
     /// A provider with these lines in its configuration and an empty history; none if the configuration is rejected. After the line
-    /// `lasting` its history lasts.
+    /// `lasting` its history lasts, and after the line `full` its pages are full.
     pub fn begin(alloc: Global, lines: &str) -> Result<Option<Provider<P>>, NoMemory> {
-        let file = match lines.strip_prefix("lasting / ") {
-            Some(lines) => configured_lasting(alloc, lines)?,
-            None => configured(alloc, lines)?,
-        };
+        let file = begun(alloc, lines)?;
         Self::read(alloc, file.as_str())
+    }
+}
+
+// The configuration with these lines.
+fn begun(alloc: Global, lines: &str) -> Result<String, NoMemory> {
+    if let Some(lines) = lines.strip_prefix("lasting / ") {
+        return configured_lasting(alloc, lines);
+    }
+    match lines.strip_prefix("full / ") {
+        Some(lines) => configured_full(alloc, lines),
+        None => configured(alloc, lines),
     }
 }
 

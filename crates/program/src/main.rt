@@ -1,5 +1,5 @@
-//! The program: runs the top call `sso` with this machine's files as the shelf and standard output as the sink. It has four
-//! desks (`desks`) over the machine's network, clock and random bytes.
+//! The program: runs the top call `sso` with this machine's files as the shelf and standard output as the sink. It has a desk for
+//! each worker (`desks`) over the machine's network, clock and random bytes.
 #![tactic(auto)]
 
 use crate::desks::desks;

@@ -20,7 +20,8 @@ use Rattle.refresh_answer.specs.declared.asks.RefreshReply.{RefreshReply}
 use Rattle.refresh_answer.specs.declared.asks.RefreshReply.TheVariants.{Through, First, Own}
 use Rattle.refresh_answer.specs.declared.rows.FamilyRow.{FamilyRow}
 use Rattle.refresh_answer.specs.declared.rows.RefreshRow.{RefreshRow}
-use Rattle.refresh_answer.specs.Rows.{family_life, token_name, new_token, old_token}
+use Rattle.oidc_words.specs.Lives.{family_life}
+use Rattle.refresh_answer.specs.Rows.{token_name, new_token, old_token}
 use Rattle.refresh_answer.specs.Around.{Outer}
 use Rattle.refresh_answer.specs.Families.{living, held_tokens, row_presented, tokens, families, family_at, begins, begun_by, ends, token_made, token_retired}
 use Rattle.refresh_answer.specs.Laws.{IsCurrentIn}

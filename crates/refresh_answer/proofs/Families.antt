@@ -8,7 +8,8 @@ use Rattle.sso_base.proofs.RowLaws.{bool_cases, bytes_same, bytes_true, row_of-p
 use Rattle.core_stack.proofs.Same.{some_same}
 use Rattle.refresh_answer.specs.declared.rows.FamilyRow.{FamilyRow}
 use Rattle.refresh_answer.specs.declared.rows.RefreshRow.{RefreshRow}
-use Rattle.refresh_answer.specs.Rows.{token_name, family_life, family_begun, most_tokens}
+use Rattle.oidc_words.specs.Lives.{family_life}
+use Rattle.refresh_answer.specs.Rows.{token_name, family_begun, most_tokens}
 use Rattle.refresh_answer.specs.Families.{family_at, appended, living_in, held_in, has_room}
 
 -- ---- plain facts

@@ -6,4 +6,5 @@ pub mod Once
 pub mod Clients
 pub mod Passed
 pub mod Unchanged
+mod ReuseSample
 mod Samples

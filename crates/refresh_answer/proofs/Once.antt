@@ -1,13 +1,16 @@
 -- Where no word was drawn twice: a token is answered by new ones once; and after an old one was presented, its family is over.
-use Rattle.std.proofs.Common.{◌≡◌, ◌<◌, ℕ, suc, nat_eq, Bool, true, false, not, ◌&&◌, ◌||◌, cond, List, [], ◌∷◌, ◌++◌, length, filter, Option, Some, None, option_and_then, option_map, Ok, inl, inr, refl, ap, sym, ◌∙◌, subst, arith}
+use Rattle.std.proofs.Common.{◌≡◌, ◌<◌, ℕ, suc, nat_eq, Bool, true, false, not, ◌&&◌, ◌||◌, cond, List, [], ◌∷◌, ◌++◌, length, filter, Option, Some, None, option_and_then, option_map, Ok, ◌⊎◌, inl, inr, refl, ap, sym, ◌∙◌, subst, arith}
 use Rattle.sso_base.specs.Words.{Word, fresh_word}
 use Rattle.sso_base.specs.Rows.{row_of, put, if_lives}
 use Rattle.sso_base.specs.Drawn.{IsDrawn}
-use Rattle.sso_base.proofs.RowLaws.{bool_cases, bytes_same, row_has_name}
+use Rattle.std.specs.Str.{bytes_eq}
+use Rattle.sso_base.proofs.RowLaws.{bool_cases, option_cases, bytes_same, bytes_true, row_has_name}
 use Rattle.sso_base.specs.declared.history.Entry.{Entry}
 use Rattle.sso_base.specs.declared.history.Pair.{Pair}
 use Rattle.client_registry.specs.Configuration.{Configuration}
 use Rattle.oidc_words.specs.Lives.{access_life}
+use Rattle.token_endpoint.specs.declared.granting.Grant.{Grant}
+use Rattle.code_grant.specs.declared.rows.CodeRow.{CodeRow}
 use Rattle.op_exchange.specs.declared.ask.OpAsk.{OpAsk}
 use Rattle.op_exchange.specs.declared.ask.OpAsk.TheVariants as op_ask
 use Rattle.op_exchange.specs.declared.reply.OpReply.{OpReply}
@@ -27,9 +30,9 @@ use Rattle.refresh_answer.specs.Rows.{token_name, access_name, access_begun, old
 use Rattle.refresh_answer.specs.Around.{Outer, outer_plain}
 use Rattle.refresh_answer.specs.Families.{access_family, living, row_presented, presented, tokens, accesses, families, family_at, begins, begun_by, ends, is_replay, is_code_replay, code_presented, token_made, token_retired, access_made}
 use Rattle.refresh_answer.specs.Answering.{IsReply, own_reply, info_reply, family_info}
-use Rattle.refresh_answer.specs.Laws.{HasNewWords, IsRefreshed, IsInfo, IsTokenOf, IsAccessOf, IsReuse}
+use Rattle.refresh_answer.specs.Laws.{HasNewWords, IsRefreshed, IsInfo, WasTokenOf, WasAccessOf, HasBegun, EndsFamily}
 use Rattle.refresh_answer.proofs.Answered.{IsAnswered}
-use Rattle.refresh_answer.proofs.Families.{some_none, true_false, found_below, none_filtered, gone, found_appended, if_lives_parts, put_here, put_other, put_found, put_stays}
+use Rattle.refresh_answer.proofs.Families.{some_none, true_false, found_below, none_filtered, found_before, gone, found_appended, if_lives_parts, put_here, put_other, put_found, put_stays}
 use Rattle.refresh_answer.proofs.Steps.{Replied, own_is, reply_rotates, presented_row, begun_place, retired_is, made_drawn, access_drawn}
 use Rattle.refresh_answer.proofs.Current.{numbered}
 
@@ -47,6 +50,20 @@ not_same n m l e = omega (arith, l, e)
 
 eq_test : (a b : ℕ) → a ≡ b → nat_eq a b ≡ true
 eq_test a b h = grind (arith, h)
+
+or_true : (b : Bool) → not (b || true) ≡ false
+or_true true = refl
+or_true false = refl
+
+abbrev rest_of : {X : Type 0} → List X → List X
+rest_of [] = []
+rest_of (x ∷ xs) = xs
+
+-- of two rests of one list, one is a rest of the other
+two_parts : {X : Type 0} (later earlier after all : List X) (q : X) → later ++ earlier ≡ after ++ q ∷ all → ((d : List X) × (all ≡ d ++ earlier)) ⊎ ((d : List X) × (earlier ≡ d ++ q ∷ all))
+two_parts [] earlier after all q same = inr (after, same)
+two_parts {X} (x ∷ later) earlier [] all q same = let T : List X → List X = λ l. rest_of l in inl (later, sym (ap T same))
+two_parts {X} (x ∷ later) earlier (y ∷ after) all q same = let T : List X → List X = λ l. rest_of l in two_parts later earlier after all q (ap T same)
 
 drawn_before : {A R : Type 0} (p : Outer A R) (past : List (Outer A R)) (w : Word) → IsDrawn past w → IsDrawn (p ∷ past) w
 drawn_before {A} {R} p past w d =
@@ -229,35 +246,123 @@ module _ {A R : Type 0} (plain : A → Option OpAsk) (given : R → Option OpRep
       → IsReply given (own_reply plain given provided c past e.at e.fresh (ask.Refresh grant)) b w reply → begun_by reply (begins plain given provided past e) ≡ None
   none_begun past e reply grant b w is = ap (λ (r : RefreshReply R). begun_by r (begins plain given provided past e)) is
 
-  -- an old token that is presented ends its family
-  over_after : (past : List (Outer A R)) (p : Outer A R) (f : FamilyRow) → Answered (p ∷ past) → IsReuse plain given provided past p f → (family_at f.by (Fs (p ∷ past)) ≡ None) × (f.by < length (p ∷ past))
-  over_after past p f is old =
+  code_by : (o : Option CodeRow) (asked : Option OpAsk) (g : Grant) (code : CodeRow) (f : FamilyRow) (other : Bool) → asked ≡ Some (op_ask.Token (Ok g)) → o ≡ Some code → code.spent ≡ true → code.word ≡ f.code
+      → g.client ≡ f.client → not (other || is_code_replay o asked f) ≡ false
+  code_by o asked g code f other is found spent word client =
+      let Q : Option OpAsk → Bool = λ a. not (other || is_code_replay o a f) in
+      let shown : Option OpAsk = Some (op_ask.Token (Ok g)) in
+      let O : Option CodeRow → Bool = λ x. not (other || is_code_replay x shown f) in
+      let B : Bool → Bool = λ b. not (other || (b && bytes_eq code.word f.code && nat_eq g.client f.client)) in
+      let C : Bool → Bool = λ b. not (other || (true && b && nat_eq g.client f.client)) in
+      let E : Bool → Bool = λ b. not (other || (true && true && b)) in
+      ap Q is ∙ ap O found ∙ ap B spent ∙ ap C (bytes_true code.word f.code word) ∙ ap E (eq_test g.client f.client client) ∙ or_true other
+
+  -- ---- a family that has begun
+
+  still_below : (later past : List (Outer A R)) (n : ℕ) → n < length past → n < length (later ++ past)
+  still_below [] past n low = low
+  still_below (p ∷ later) past n low = longer n (length (later ++ past)) (still_below later past n low)
+
+  -- one that is found later was found before, unchanged
+  found_earlier : (later past : List (Outer A R)) (n : ℕ) (f : FamilyRow) → n < length past → family_at n (Fs (later ++ past)) ≡ Some f → family_at n (Fs past) ≡ Some f
+  found_earlier [] past n f low h = h
+  found_earlier (p ∷ later) past n f low h =
+      let all : List (Outer A R) = later ++ past in
+      let k : FamilyRow → Bool = λ g. not (ends plain given provided all p.entry.at p.entry.ask g) in
+      let same : family_at n (Fs (p ∷ all)) ≡ family_at n (filter k (Fs all)) =
+      found_appended n (length all) (filter k (Fs all)) (begun_by p.reply (begins plain given provided all p.entry)) (λ g is. begun_place plain given provided all p.entry p.reply g is) (not_same n (length all) (still_below later past n low)) in
+      found_earlier later past n f low (found_before k n (length all) (Fs all) f (numbered plain given provided all) (sym same ∙ h))
+
+  begun_below : (past : List (Outer A R)) (f : FamilyRow) → HasBegun plain given provided past f → f.by < length past
+  begun_below past f begun =
+      let N : List (Outer A R) → Type 0 = λ l. f.by < length l in
+      subst N (sym begun.parts)
+      (still_below begun.later begun.earlier f.by (found_below f.by (length begun.earlier) (Fs begun.earlier) f (numbered plain given provided begun.earlier) begun.stands))
+
+  -- if it is found, it is the one that began
+  begun_same : (past : List (Outer A R)) (f g : FamilyRow) → HasBegun plain given provided past f → family_at f.by (Fs past) ≡ Some g → g ≡ f
+  begun_same past f g begun found =
+      let first : List (Outer A R) = begun.earlier in
+      let L : List (Outer A R) → Type 0 = λ l. family_at f.by (Fs l) ≡ Some g in
+      let low : f.by < length first = found_below f.by (length first) (Fs first) f (numbered plain given provided first) begun.stands in
+      some_same g f (sym (found_earlier begun.later first f.by g low (subst L begun.parts found)) ∙ begun.stands)
+
+  -- it is over after a pair that ends it
+  over_by : (past : List (Outer A R)) (p : Outer A R) (f : FamilyRow) → HasBegun plain given provided past f → not (ends plain given provided past p.entry.at p.entry.ask f) ≡ false
+      → (family_at f.by (Fs (p ∷ past)) ≡ None) × (f.by < length (p ∷ past))
+  over_by past p f begun out =
       let k : FamilyRow → Bool = λ g. not (ends plain given provided past p.entry.at p.entry.ask g) in
-      let G : RefreshAsk A → Type 0 = λ a. IsReply given (own_reply plain given provided c past p.entry.at p.entry.fresh a) (begins plain given provided past p.entry) (fresh_word p.entry.fresh 1) p.reply in
-      let none : begun_by p.reply (begins plain given provided past p.entry) ≡ None =
-      none_begun past p.entry p.reply (Ok old.grant) (begins plain given provided past p.entry) (fresh_word p.entry.fresh 1) (subst G old.asked is.2) in
-      let N : Option FamilyRow → Option FamilyRow = λ o. family_at f.by (Rattle.refresh_answer.specs.Families.appended (filter k (Fs past)) o) in
-      let out : k f ≡ false =
-      replay_by (row_presented (T past) p.entry.ask) p.entry.ask old.grant old.row f (is_code_replay (code_presented plain given provided past p.entry.at p.entry.ask) (outer_plain plain p.entry.ask) f) old.asked old.presented_is old.old old.family old.client in (
-        ap N none ∙ gone k f.by (length past) (Fs past) f (numbered plain given provided past) old.stands out,
-        longer f.by (length past) (found_below f.by (length past) (Fs past) f (numbered plain given provided past) old.stands),
+      let low : f.by < length past = begun_below past f begun in
+      let none : family_at f.by (filter k (Fs past)) ≡ None = elim (option_cases (family_at f.by (Fs past))) [
+        | inl over ↦ none_filtered k f.by (Fs past) over
+        | inr some ↦ gone k f.by (length past) (Fs past) f (numbered plain given provided past) (some.1 ∙ ap Some (begun_same past f some.0 begun some.1)) out
+      ] in (
+        found_appended f.by (length past) (filter k (Fs past)) (begun_by p.reply (begins plain given provided past p.entry)) (λ g is. begun_place plain given provided past p.entry p.reply g is) (not_same f.by (length past) low) ∙ none,
+        longer f.by (length past) low,
       )
 
-  pub no_refresh_after : (past after between before : List (Outer A R)) (p q : Outer A R) (f : FamilyRow) (w : Word) → Answered past → HasNewWords past → past ≡ after ++ q ∷ (between ++ p ∷ before)
-      → IsReuse plain given provided before p f → IsTokenOf (T before) f.by w → IsRefreshed q w → ⊥
-  no_refresh_after past after between before p q f w is apart parts old token refreshed =
+  over_after : (past : List (Outer A R)) (p : Outer A R) (f : FamilyRow) → EndsFamily plain given provided past p f → (family_at f.by (Fs (p ∷ past)) ≡ None) × (f.by < length (p ∷ past))
+  over_after past p f (inl old) =
+      over_by past p f old.begun
+      (replay_by (row_presented (T past) p.entry.ask) p.entry.ask old.grant old.row f (is_code_replay (code_presented plain given provided past p.entry.at p.entry.ask) (outer_plain plain p.entry.ask) f) old.asked old.presented_is old.old old.family old.client)
+  over_after past p f (inr again) =
+      over_by past p f again.begun
+      (code_by (code_presented plain given provided past p.entry.at p.entry.ask) (outer_plain plain p.entry.ask) again.grant again.code f (is_replay (row_presented (T past) p.entry.ask) p.entry.ask f) again.asked again.held again.spent again.code_is again.client)
+
+  -- ---- a token that a family has at some moment
+
+  -- its row is of the family at every moment
+  token_family : (past after all : List (Outer A R)) (q : Outer A R) (w : Word) (n : ℕ) (row : RefreshRow) → Answered past → HasNewWords past → past ≡ after ++ q ∷ all → WasTokenOf plain given provided past n w
+      → row_of token_name w (T all) ≡ Some row → row.family ≡ n
+  token_family past after all q w n row is apart parts token found =
       let L : List (Outer A R) → Type 0 = λ l. Answered l in
       let D : List (Outer A R) → Type 0 = λ l. HasNewWords l in
-      let all : List (Outer A R) = between ++ p ∷ before in
+      let S : List (Outer A R) → Type 0 = λ l. row_of token_name w (T l) ≡ Some token.token.row in
       let then : Answered (q ∷ all) = answered_before after (q ∷ all) (subst L parts is) in
       let drawn : HasNewWords (q ∷ all) = apart_before after (q ∷ all) (subst D parts apart) in
-      let at_p : Answered (p ∷ before) = answered_before between (p ∷ before) then.0 in
-      let over = over_after before p f at_p old in
+      elim (two_parts token.later token.earlier after all q (sym token.parts ∙ parts)) [
+        | inl old ↦
+            (let R' : List (Outer A R) → Type 0 = λ l. row_of token_name w (T l) ≡ Some row in
+            let later = tokens_stay old.0 token.earlier (subst L old.1 then.0) (subst D old.1 drawn.0) w token.token.row token.token.stands in
+            ap (λ (r : RefreshRow). r.family) (some_same row later.0 (sym (subst R' old.1 found) ∙ later.1)) ∙ later.2 ∙ token.token.family)
+        | inr new ↦
+            (let at : Answered token.earlier = answered_before token.later token.earlier (subst L token.parts is) in
+            let words : HasNewWords token.earlier = apart_before token.later token.earlier (subst D token.parts apart) in
+            let one = token_stays all q then drawn w row found in
+            let two = tokens_stay new.0 (q ∷ all) (subst L new.1 at) (subst D new.1 words) w one.0 one.1 in
+            sym one.2 ∙ sym two.2 ∙ ap (λ (r : RefreshRow). r.family) (some_same two.0 token.token.row (sym two.1 ∙ subst S new.1 token.token.stands)) ∙ token.token.family)
+      ]
+
+  access_family_is : (past after all : List (Outer A R)) (q : Outer A R) (w : Word) (n : ℕ) (row : AccessRow) → Answered past → HasNewWords past → past ≡ after ++ q ∷ all → WasAccessOf plain given provided past n w
+      → row_of access_name w (Xs all) ≡ Some row → row.family ≡ n
+  access_family_is past after all q w n row is apart parts token found =
+      let L : List (Outer A R) → Type 0 = λ l. Answered l in
+      let D : List (Outer A R) → Type 0 = λ l. HasNewWords l in
+      let then : Answered (q ∷ all) = answered_before after (q ∷ all) (subst L parts is) in
+      let drawn : HasNewWords (q ∷ all) = apart_before after (q ∷ all) (subst D parts apart) in
+      elim (two_parts token.later token.earlier after all q (sym token.parts ∙ parts)) [
+        | inl old ↦
+            (let R' : List (Outer A R) → Type 0 = λ l. row_of access_name w (Xs l) ≡ Some row in
+            let later = accesses_stay old.0 token.earlier (subst L old.1 then.0) (subst D old.1 drawn.0) w token.token.row token.token.stands in
+            ap (λ (r : AccessRow). r.family) (some_same row token.token.row (sym (subst R' old.1 found) ∙ later)) ∙ token.token.family)
+        | inr new ↦
+            (let S : List (Outer A R) → Type 0 = λ l. row_of access_name w (Xs l) ≡ Some token.token.row in
+            let at : Answered token.earlier = answered_before token.later token.earlier (subst L token.parts is) in
+            let words : HasNewWords token.earlier = apart_before token.later token.earlier (subst D token.parts apart) in
+            let one = accesses_stay (q ∷ []) all then drawn w row found in
+            let two = accesses_stay new.0 (q ∷ all) (subst L new.1 at) (subst D new.1 words) w row one in
+            ap (λ (r : AccessRow). r.family) (some_same row token.token.row (sym two ∙ subst S new.1 token.token.stands)) ∙ token.token.family)
+      ]
+
+  pub no_refresh_after : (past after between before : List (Outer A R)) (p q : Outer A R) (f : FamilyRow) (w : Word) → Answered past → HasNewWords past → past ≡ after ++ q ∷ (between ++ p ∷ before)
+      → EndsFamily plain given provided before p f → WasTokenOf plain given provided past f.by w → IsRefreshed q w → ⊥
+  no_refresh_after past after between before p q f w is apart parts ended token refreshed =
+      let L : List (Outer A R) → Type 0 = λ l. Answered l in
+      let all : List (Outer A R) = between ++ p ∷ before in
+      let over = over_after before p f ended in
       let stays_over = over_stays between (p ∷ before) f.by over.1 over.0 in
-      let one = token_stays before p at_p (apart_before between (p ∷ before) drawn.0) w token.row token.stands in
-      let later = tokens_stay between (p ∷ before) then.0 drawn.0 w one.0 one.1 in
-      let again = refreshed_row all q w then refreshed in
-      let family : again.0.family ≡ f.by = ap (λ (r : RefreshRow). r.family) (some_same again.0 later.0 (sym again.1 ∙ later.1)) ∙ later.2 ∙ one.2 ∙ token.family in
+      let again = refreshed_row all q w (answered_before after (q ∷ all) (subst L parts is)) refreshed in
+      let family : again.0.family ≡ f.by = token_family past after all q w f.by again.0 is apart parts token again.1 in
       let F : ℕ → Option FamilyRow = λ n. family_at n (Fs all) in
       let live = again.4 in
       some_none live.0 (sym (if_lives_parts q.entry.at (family_at again.0.family (Fs all)) live.0 live.1).0 ∙ ap F family ∙ stays_over.0)
@@ -277,23 +382,28 @@ module _ {A R : Type 0} (plain : A → Option OpAsk) (given : R → Option OpRep
   access_lives past at row true f h = h
   access_lives past at row false f h = absurd (some_none f (sym h))
 
+  -- the row of an access token for which claims were sent, and its family, which lives
+  told_by_row : (past : List (Outer A R)) (at : ℕ) (w : Word) (o : Option AccessRow) (f : FamilyRow) → row_of access_name w (Xs past) ≡ o → access_family plain given provided past at w ≡ Some f
+      → (row : AccessRow) × (o ≡ Some row) × (living plain given provided past at row.family ≡ Some f)
+  told_by_row past at w o f there told =
+      let Y : Option AccessRow → Option FamilyRow = λ x. option_and_then (λ (r : AccessRow). living plain given provided past at r.family) (option_and_then (if_lives access_life access_begun at) x) in
+      elim (option_cases o) [
+        | inl none ↦ absurd (some_none f (sym told ∙ ap Y (there ∙ none)))
+        | inr some ↦ (some.0, some.1, access_lives past at some.0 _ f (sym (ap Y (there ∙ some.1)) ∙ told))
+      ]
+
   pub no_info_after : (past after between before : List (Outer A R)) (p q : Outer A R) (f : FamilyRow) (w : Word) → Answered past → HasNewWords past → past ≡ after ++ q ∷ (between ++ p ∷ before)
-      → IsReuse plain given provided before p f → IsAccessOf (Xs before) f.by w → IsInfo plain q w → ⊥
-  no_info_after past after between before p q f w is apart parts old token info =
+      → EndsFamily plain given provided before p f → WasAccessOf plain given provided past f.by w → IsInfo plain q w → ⊥
+  no_info_after past after between before p q f w is apart parts ended token info =
       let L : List (Outer A R) → Type 0 = λ l. Answered l in
-      let D : List (Outer A R) → Type 0 = λ l. HasNewWords l in
       let all : List (Outer A R) = between ++ p ∷ before in
       let then : Answered (q ∷ all) = answered_before after (q ∷ all) (subst L parts is) in
-      let drawn : HasNewWords (q ∷ all) = apart_before after (q ∷ all) (subst D parts apart) in
-      let at_p : Answered (p ∷ before) = answered_before between (p ∷ before) then.0 in
-      let over = over_after before p f at_p old in
+      let over = over_after before p f ended in
       let stays_over = over_stays between (p ∷ before) f.by over.1 over.0 in
-      let one = accesses_stay (p ∷ []) before at_p (apart_before between (p ∷ before) drawn.0) w token.row token.stands in
-      let later = accesses_stay between (p ∷ before) then.0 drawn.0 w token.row one in
       let Q : RefreshReply R → Type 0 = λ r. Replied plain given provided c all q.entry r in
       let own_told = own_is given (own_reply plain given provided c all q.entry.at q.entry.fresh q.entry.ask) (begins plain given provided all q.entry) (fresh_word q.entry.fresh 1) (own.Info info.claims) (subst Q info.replied then.2) in
-      let family = told_claims (access_family plain given provided all q.entry.at w) info.claims (info_asked all q.entry.at q.entry.fresh q.entry.ask w (own.Info info.claims) info.asked own_told) in
-      let Y : Option AccessRow → Option FamilyRow = λ o. option_and_then (λ (r : AccessRow). living plain given provided all q.entry.at r.family) (option_and_then (if_lives access_life access_begun q.entry.at) o) in
-      let live = access_lives all q.entry.at token.row _ family.0 (sym (ap Y later) ∙ family.1) in
+      let told = told_claims (access_family plain given provided all q.entry.at w) info.claims (info_asked all q.entry.at q.entry.fresh q.entry.ask w (own.Info info.claims) info.asked own_told) in
+      let shown = told_by_row all q.entry.at w (row_of access_name w (Xs all)) told.0 refl told.1 in
+      let family : shown.0.family ≡ f.by = access_family_is past after all q w f.by shown.0 is apart parts token shown.1 in
       let F : ℕ → Option FamilyRow = λ n. family_at n (Fs all) in
-      some_none family.0 (sym (if_lives_parts q.entry.at (family_at token.row.family (Fs all)) family.0 live).0 ∙ ap F token.family ∙ stays_over.0)
+      some_none told.0 (sym (if_lives_parts q.entry.at (family_at shown.0.family (Fs all)) told.0 shown.2).0 ∙ ap F family ∙ stays_over.0)

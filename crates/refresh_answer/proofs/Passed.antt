@@ -15,10 +15,10 @@ use Rattle.op_exchange.specs.declared.ask.OpAsk.TheVariants as op_ask
 use Rattle.op_exchange.specs.declared.reply.OpReply.{OpReply}
 use Rattle.op_exchange.specs.declared.reply.OpReply.TheVariants as op_reply
 use Rattle.op_answer.specs.Past.{OpPair}
-use Rattle.core_stack.specs.Stacks.{AddsGiven}
+use Rattle.core_stack.specs.Stacks.{AddsGiven, AreNotices}
 use Rattle.core_stack.specs.Stacked.{AreAnswered, IsStack}
 use Rattle.core_stack.proofs.Passing.{beginning_is_legal}
-use Rattle.core_stack.proofs.Stacking.{legal_inside}
+use Rattle.core_stack.proofs.Stacking.{legal_inside, outer_notices_are}
 use Rattle.core_stack.proofs.OnePair.{ShowsSame, one_adds}
 use Rattle.core_stack.proofs.Same.{some_same}
 use Rattle.refresh_answer.specs.declared.asks.RefreshGrant.{RefreshGrant}
@@ -61,6 +61,11 @@ pub passed_is : {A R : Type 0} (e : Entry (RefreshAsk A)) (reply : RefreshReply 
 passed_is e (Through x) q is = let i = inside_is e e.ask x q is in record { inner = i.0; offline = i.1; answer = x; asked = i.2; pair = i.3; shown = λ told. refl }
 passed_is e (First x w) q is = let i = inside_is e e.ask x q is in record { inner = i.0; offline = i.1; answer = x; asked = i.2; pair = i.3; shown = λ told. refl }
 passed_is e (Own own) q is = absurd (some_none q (sym is))
+
+passed_notices : {A R : Type 0} (notices : R → Option (List Message)) (e : Entry (RefreshAsk A)) (reply : RefreshReply R) (q : Pair A R) → passed_by e reply ≡ Some q → outer_notices notices reply ≡ notices q.reply
+passed_notices {A} {R} notices e (Through x) q is = let N : Pair A R → Option (List Message) = λ y. notices y.reply in ap N (sym (inside_is e e.ask x q is).3)
+passed_notices {A} {R} notices e (First x w) q is = let N : Pair A R → Option (List Message) = λ y. notices y.reply in ap N (sym (inside_is e e.ask x q is).3)
+passed_notices notices e (Own own) q is = absurd (some_none q (sym is))
 
 pub passed_moment : {A R : Type 0} (p : Outer A R) (q : Pair A R) → passed p ≡ Some q → q.entry.at ≡ p.entry.at
 passed_moment {A} {R} p q is = let F : Pair A R → ℕ = λ x. x.entry.at in ap F (passed_is p.entry p.reply q is).pair
@@ -154,18 +159,30 @@ module _ {A R : Type 0} (plain : A → Option OpAsk) (given : R → Option OpRep
         | inr refresh ↦ absurd (not_own given _ (begins plain given provided past e) (fresh_word e.fresh 1) reply (subst G refresh.1 is) other)
       ]
 
-  -- the provider's reply in what was not passed on
+  -- what the core does not answer by itself is passed on
+  passes : (c : Configuration) (past : List (Outer A R)) (e : Entry (RefreshAsk A)) (reply : RefreshReply R) → IsRefreshReply plain given provided c past e reply → is_own_reply reply ≡ false → passed_by e reply ≡ None → ⊥
+  passes c past e (Own own) is other none = true_false other
+  passes c past e (Through x) is other none =
+      let asked = asked_through c past e (Through x) is refl in
+      let P : RefreshAsk A → Option (Pair A R) = λ a. asked_inside e a x in
+      some_none (pair_inside e asked.0 x) (sym (ap P asked.2) ∙ none)
+  passes c past e (First x w) is other none =
+      let asked = asked_through c past e (First x w) is refl in
+      let P : RefreshAsk A → Option (Pair A R) = λ a. asked_inside e a x in
+      some_none (pair_inside e asked.0 x) (sym (ap P asked.2) ∙ none)
+
+  -- the provider's reply in what was not passed on, and its messages
   none_told : (told : R → Option OpReply) (c : Configuration) (past : List (Outer A R)) (e : Entry (RefreshAsk A)) (reply : RefreshReply R) → IsRefreshReply plain given provided c past e reply → passed_by e reply ≡ None
       → outer_told told reply ≡ None
   none_told told c past e (Own own) is none = refl
-  none_told told c past e (Through x) is none =
-      let asked = asked_through c past e (Through x) is refl in
-      let P : RefreshAsk A → Option (Pair A R) = λ a. asked_inside e a x in
-      absurd (some_none (pair_inside e asked.0 x) (sym (ap P asked.2) ∙ none))
-  none_told told c past e (First x w) is none =
-      let asked = asked_through c past e (First x w) is refl in
-      let P : RefreshAsk A → Option (Pair A R) = λ a. asked_inside e a x in
-      absurd (some_none (pair_inside e asked.0 x) (sym (ap P asked.2) ∙ none))
+  none_told told c past e (Through x) is none = absurd (passes c past e (Through x) is refl none)
+  none_told told c past e (First x w) is none = absurd (passes c past e (First x w) is refl none)
+
+  none_noted : (notices : R → Option (List Message)) (c : Configuration) (past : List (Outer A R)) (e : Entry (RefreshAsk A)) (reply : RefreshReply R) → IsRefreshReply plain given provided c past e reply → passed_by e reply ≡ None
+      → outer_notices notices reply ≡ None
+  none_noted notices c past e (Own own) is none = refl
+  none_noted notices c past e (Through x) is none = absurd (passes c past e (Through x) is refl none)
+  none_noted notices c past e (First x w) is none = absurd (passes c past e (First x w) is refl none)
 
   plain_through : (asked : RefreshAsk A) (x : OpAsk) → outer_plain plain asked ≡ Some x → (a : A) × (o : Bool) × (asked ≡ ask.Through a o) × (plain a ≡ Some x)
   plain_through (ask.Through a o) x h = (a, o, refl, h)
@@ -203,6 +220,15 @@ module _ {A R : Type 0} (plain : A → Option OpAsk) (given : R → Option OpRep
               let T : Pair A R → Option OpReply = λ x. told x.reply in
               i.shown given ∙ sym (ap G i.pair) ∙ inner some.0 (last_inside some.0 some.1) (ap T i.pair ∙ sym (i.shown told) ∙ said))
         ]
+
+    -- the messages of its reply are those of the inner core's reply
+    pub outer_notices_tell : (notices : R → Option (List Message))
+        → ((q : Pair A R) → passed p ≡ Some q → AreNotices (notices q.reply) (provided (inner_history h)) (provided (inner_history h ++ q ∷ [])))
+        → AreNotices (outer_notices notices p.reply) (provided (inner_history h)) (provided (inner_history (h ++ p ∷ [])))
+    outer_notices_tell notices inner =
+        outer_notices_are passed provided (outer_notices notices p.reply) h p (λ none. none_noted notices s.registry (reverse h) p.entry p.reply last_answered none)
+        (λ q is. let T : Option (List Message) → Type 0 = λ o. AreNotices o (provided (inner_history h)) (provided (inner_history h ++ q ∷ [])) in
+        subst T (sym (passed_notices notices p.entry p.reply q is)) (inner q is))
 
     -- a sign-out is passed on
     pub outer_signs_out : (notices : R → Option (List Message)) (w : Option Word) → outer_plain plain p.entry.ask ≡ Some (op_ask.SignOut w)

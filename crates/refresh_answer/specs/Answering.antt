@@ -19,7 +19,7 @@ use Rattle.op_exchange.specs.declared.ask.OpAsk.TheVariants.{Info}
 use Rattle.op_exchange.specs.declared.reply.OpReply.{OpReply}
 use Rattle.op_exchange.specs.declared.reply.OpReply.TheVariants.{Tokens}
 use Rattle.op_answer.specs.Past.{OpPair}
-use Rattle.core_stack.specs.Stacked.{IsLegalStack}
+use Rattle.core_stack.specs.Stacked.{AreAnswered, IsLegalStack}
 use Rattle.refresh_answer.specs.declared.asks.RefreshGrant.{RefreshGrant}
 use Rattle.refresh_answer.specs.declared.asks.RefreshAsk.{RefreshAsk}
 use Rattle.refresh_answer.specs.declared.asks.RefreshAsk.TheVariants as ask
@@ -88,6 +88,11 @@ module _ {A R : Type 0} (plain : A → Option OpAsk) (given : R → Option OpRep
       IsReply given (own_reply c past e.at e.fresh e.ask) (begins plain given provided past e) (fresh_word e.fresh 1) reply
 
 -- ---- legal histories
+
+-- a past, newest pair first, whose replies are those of this core, whatever it weighs
+abbrev pub IsRefreshPast : {A R : Type 0} → (A → Option OpAsk) → (R → Option OpReply) → (List (Pair A R) → List OpPair) → (A → Type 0)
+    → Configuration → List (Outer A R) → Type 0
+IsRefreshPast plain given provided IsAsk c past = AreAnswered (IsRefreshAsk IsAsk) (IsRefreshReply plain given provided c) past
 
 -- the setup of the inner core, and the registry
 pub record Setup (S : Type 0) : Type 0 where

@@ -7,7 +7,7 @@ use Rattle.sso_base.specs.Words.{Word, word_of_text, fresh_word}
 use Rattle.sso_base.specs.Rows.{put, row_of, if_lives}
 use Rattle.sso_base.specs.declared.history.Entry.{Entry}
 use Rattle.sso_base.specs.declared.history.Pair.{Pair}
-use Rattle.oidc_words.specs.Lives.{access_life}
+use Rattle.oidc_words.specs.Lives.{access_life, family_life}
 use Rattle.code_grant.specs.declared.rows.CodeRow.{CodeRow}
 use Rattle.op_exchange.specs.declared.ask.OpAsk.{OpAsk}
 use Rattle.op_exchange.specs.declared.ask.OpAsk.TheVariants.{Token}
@@ -23,7 +23,7 @@ use Rattle.refresh_answer.specs.declared.asks.RefreshReply.TheVariants.{First, O
 use Rattle.refresh_answer.specs.declared.rows.FamilyRow.{FamilyRow}
 use Rattle.refresh_answer.specs.declared.rows.AccessRow.{AccessRow}
 use Rattle.refresh_answer.specs.declared.rows.RefreshRow.{RefreshRow}
-use Rattle.refresh_answer.specs.Rows.{family_life, most_tokens, token_name, access_name, access_begun, family_begun, new_token, old_token}
+use Rattle.refresh_answer.specs.Rows.{most_tokens, token_name, access_name, access_begun, family_begun, new_token, old_token}
 use Rattle.refresh_answer.specs.Around.{Outer, inner_history, outer_plain, outer_given, offline_mark}
 
 -- ---- refresh tokens

@@ -6,10 +6,6 @@ use Rattle.refresh_answer.specs.declared.rows.RefreshRow.{RefreshRow}
 use Rattle.refresh_answer.specs.declared.rows.AccessRow.{AccessRow}
 use Rattle.refresh_answer.specs.Places.{place_bytes}
 
--- how many seconds a family lives: 30 days
-abbrev pub family_life : ℕ
-family_life = 2592000
-
 -- the greatest number of refresh tokens that are held
 abbrev pub most_tokens : ℕ
 most_tokens = 65536

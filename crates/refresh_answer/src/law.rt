@@ -1,9 +1,10 @@
 // What is true of families, their tokens and their clients.
 
-ghost use Rattle.std.specs.Prelude.{◌≡◌, ◌≤◌, ℕ, false, List, ◌∷◌, ◌++◌, reverse, Some, Result, Ok};
+ghost use Rattle.std.specs.Prelude.{◌≡◌, ◌≤◌, ℕ, false, List, ◌∷◌, ◌++◌, Some, Result, Ok};
 ghost use Rattle.sso_base.specs.Words.{Word};
 ghost use Rattle.sso_base.specs.Legal.{last_moment};
 ghost use Rattle.oidc_words.specs.declared.scopes.Scopes.{Scopes};
+ghost use Rattle.client_registry.specs.Configuration.{Configuration};
 ghost use Rattle.token_endpoint.specs.declared.no.GrantNo.{GrantNo};
 ghost use Rattle.token_endpoint.specs.declared.error.TokenError.{TokenError as token_error_of};
 ghost use Rattle.refresh_answer.specs.declared.asks.RefreshGrant.{RefreshGrant};
@@ -13,7 +14,7 @@ ghost use Rattle.refresh_answer.specs.declared.asks.RefreshReply.TheVariants as 
 ghost use Rattle.refresh_answer.specs.declared.rows.FamilyRow.{FamilyRow as family_row};
 ghost use Rattle.refresh_answer.specs.Around.{Outer};
 ghost use Rattle.refresh_answer.specs.Families as spec;
-ghost use Rattle.refresh_answer.specs.Answering.{Setup, IsLegalRefresh};
+ghost use Rattle.refresh_answer.specs.Answering.{IsRefreshPast};
 ghost use Rattle.refresh_answer.specs.Laws as laws;
 
 use core_stack::Provides;
@@ -21,38 +22,39 @@ use core_stack::Provides;
 /// A living family has one current token and no other (RFC 9700, 4.14.2). If no step draws a word that an earlier step drew, a client gets
 /// new tokens for a refresh token at most once.
 pub fn refresh_tokens_rotate<P: Provides>()
-    ensures current { (s : Setup P.Setup) (h : List (Outer P.Ask P.Reply)) (at n : ℕ) (f : family_row)
-        → IsLegalRefresh P.plain_ask P.given_reply P.provided P.IsAsk P.weighs P.most P.is_legal s h → last_moment (reverse h) ≤ at
-        → spec.living P.plain_ask P.given_reply P.provided (reverse h) at n ≡ Some f
-        → (w : Word) × laws.IsCurrentIn (spec.tokens P.plain_ask P.given_reply P.provided (reverse h)) n w }
-    ensures once { (s : Setup P.Setup) (h after between before : List (Outer P.Ask P.Reply)) (p q : Outer P.Ask P.Reply) (w : Word)
-        → IsLegalRefresh P.plain_ask P.given_reply P.provided P.IsAsk P.weighs P.most P.is_legal s h → laws.HasNewWords (reverse h)
-        → reverse h ≡ after ++ q ∷ (between ++ p ∷ before) → laws.IsRefreshed p w → laws.IsRefreshed q w → ⊥ }
+    ensures current { (c : Configuration) (past : List (Outer P.Ask P.Reply)) (at n : ℕ) (f : family_row)
+        → IsRefreshPast P.plain_ask P.given_reply P.provided P.IsAsk c past → last_moment past ≤ at
+        → spec.living P.plain_ask P.given_reply P.provided past at n ≡ Some f
+        → (w : Word) × laws.IsCurrentIn (spec.tokens P.plain_ask P.given_reply P.provided past) n w }
+    ensures once { (c : Configuration) (past after between before : List (Outer P.Ask P.Reply)) (p q : Outer P.Ask P.Reply) (w : Word)
+        → IsRefreshPast P.plain_ask P.given_reply P.provided P.IsAsk c past → laws.HasNewWords past
+        → past ≡ after ++ q ∷ (between ++ p ∷ before) → laws.IsRefreshed p w → laws.IsRefreshed q w → ⊥ }
 {}
 
-/// After the client of a family presents an old token of it, no refresh token of the family gets new tokens, and none of its access tokens
-/// gets claims, if no step draws a word that an earlier step drew (RFC 9700, 4.14.2).
+/// After the client of a family presents an old token of it, or its code once more, no refresh token that the family ever has gets new
+/// tokens, and none of its access tokens gets claims, if no step draws a word that an earlier step drew (RFC 9700, 4.14.2; RFC 6749,
+/// 4.1.2).
 pub fn reuse_ends_the_family<P: Provides>()
-    ensures tokens { (s : Setup P.Setup) (h after between before : List (Outer P.Ask P.Reply)) (p q : Outer P.Ask P.Reply) (f : family_row) (w : Word)
-        → IsLegalRefresh P.plain_ask P.given_reply P.provided P.IsAsk P.weighs P.most P.is_legal s h → laws.HasNewWords (reverse h)
-        → reverse h ≡ after ++ q ∷ (between ++ p ∷ before) → laws.IsReuse P.plain_ask P.given_reply P.provided before p f
-        → laws.IsTokenOf (spec.tokens P.plain_ask P.given_reply P.provided before) f.by w → laws.IsRefreshed q w → ⊥ }
-    ensures accesses { (s : Setup P.Setup) (h after between before : List (Outer P.Ask P.Reply)) (p q : Outer P.Ask P.Reply) (f : family_row) (w : Word)
-        → IsLegalRefresh P.plain_ask P.given_reply P.provided P.IsAsk P.weighs P.most P.is_legal s h → laws.HasNewWords (reverse h)
-        → reverse h ≡ after ++ q ∷ (between ++ p ∷ before) → laws.IsReuse P.plain_ask P.given_reply P.provided before p f
-        → laws.IsAccessOf (spec.accesses P.plain_ask P.given_reply P.provided before) f.by w → laws.IsInfo P.plain_ask q w → ⊥ }
+    ensures tokens { (c : Configuration) (past after between before : List (Outer P.Ask P.Reply)) (p q : Outer P.Ask P.Reply) (f : family_row) (w : Word)
+        → IsRefreshPast P.plain_ask P.given_reply P.provided P.IsAsk c past → laws.HasNewWords past
+        → past ≡ after ++ q ∷ (between ++ p ∷ before) → laws.EndsFamily P.plain_ask P.given_reply P.provided before p f
+        → laws.WasTokenOf P.plain_ask P.given_reply P.provided past f.by w → laws.IsRefreshed q w → ⊥ }
+    ensures accesses { (c : Configuration) (past after between before : List (Outer P.Ask P.Reply)) (p q : Outer P.Ask P.Reply) (f : family_row) (w : Word)
+        → IsRefreshPast P.plain_ask P.given_reply P.provided P.IsAsk c past → laws.HasNewWords past
+        → past ≡ after ++ q ∷ (between ++ p ∷ before) → laws.EndsFamily P.plain_ask P.given_reply P.provided before p f
+        → laws.WasAccessOf P.plain_ask P.given_reply P.provided past f.by w → laws.IsInfo P.plain_ask q w → ⊥ }
 {}
 
 /// Only the client of a living family gets tokens for its current token (RFC 6749, 6 and 10.4), with the scope values of the family. A
 /// refresh request of another client leaves the family.
 pub fn tokens_stay_with_their_client<P: Provides>()
-    ensures client { (s : Setup P.Setup) (h after before : List (Outer P.Ask P.Reply)) (p : Outer P.Ask P.Reply) (access refresh : Word) (scopes : Scopes)
-        → IsLegalRefresh P.plain_ask P.given_reply P.provided P.IsAsk P.weighs P.most P.is_legal s h
-        → reverse h ≡ after ++ p ∷ before → p.reply ≡ reply_as.Own (own_as.Refreshed access refresh scopes)
+    ensures client { (c : Configuration) (past after before : List (Outer P.Ask P.Reply)) (p : Outer P.Ask P.Reply) (access refresh : Word) (scopes : Scopes)
+        → IsRefreshPast P.plain_ask P.given_reply P.provided P.IsAsk c past
+        → past ≡ after ++ p ∷ before → p.reply ≡ reply_as.Own (own_as.Refreshed access refresh scopes)
         → laws.IsByItsClient P.plain_ask P.given_reply P.provided before p scopes }
-    ensures others { (s : Setup P.Setup) (h after before : List (Outer P.Ask P.Reply)) (p : Outer P.Ask P.Reply) (f : family_row) (grant : RefreshGrant)
-        → IsLegalRefresh P.plain_ask P.given_reply P.provided P.IsAsk P.weighs P.most P.is_legal s h
-        → reverse h ≡ after ++ p ∷ before → p.entry.ask ≡ ask.Refresh (Ok grant) → (grant.client ≡ f.client → ⊥)
+    ensures others { (c : Configuration) (past after before : List (Outer P.Ask P.Reply)) (p : Outer P.Ask P.Reply) (f : family_row) (grant : RefreshGrant)
+        → IsRefreshPast P.plain_ask P.given_reply P.provided P.IsAsk c past
+        → past ≡ after ++ p ∷ before → p.entry.ask ≡ ask.Refresh (Ok grant) → (grant.client ≡ f.client → ⊥)
         → spec.family_at f.by (spec.families P.plain_ask P.given_reply P.provided before) ≡ Some f
         → spec.family_at f.by (spec.families P.plain_ask P.given_reply P.provided (p ∷ before)) ≡ Some f }
 {}

@@ -27,4 +27,4 @@ pub use law::{
     tokens_stay_with_their_client,
 };
 pub use place::Place;
-pub use rows::{AccessRow, FAMILY_LIFE, FamilyRow, RefreshRow};
+pub use rows::{AccessRow, FamilyRow, RefreshRow};

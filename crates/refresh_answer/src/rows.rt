@@ -5,11 +5,8 @@ ghost use Rattle.held_rows.specs.Held.{AnyRow, one_of};
 
 use crate::place::Place;
 use held_rows::{By, Row};
-use oidc_words::{ACCESS_LIFE, Scopes};
+use oidc_words::{ACCESS_LIFE, FAMILY_LIFE, Scopes};
 use sso_base::{Moment, Texts, Word};
-
-/// How many seconds a family lives: 30 days.
-pub const FAMILY_LIFE: u32 = 2_592_000;
 
 /// A family of refresh tokens. It lives for 2,592,000 seconds, unless it is ended.
 #[derive(Drop)]
@@ -49,8 +46,9 @@ pub struct AccessRow {
 }
 
 impl Row for FamilyRow {
+    ghost use Rattle.oidc_words.specs.Lives.{family_life};
     ghost use Rattle.refresh_answer.specs.Places.{place_bytes};
-    ghost use Rattle.refresh_answer.specs.Rows.{family_name, family_begun, family_life};
+    ghost use Rattle.refresh_answer.specs.Rows.{family_name, family_begun};
 
     ghost name = { family_name };
 

@@ -12,14 +12,14 @@ use Rattle.sso_base.proofs.Removing.{filter-without}
 use Rattle.sso_base.specs.declared.history.Pair.{Pair}
 use Rattle.held_rows.proofs.HeldLaws.{distinct_filter}
 use Rattle.held_rows.proofs.Hits.{both_filtered}
-use Rattle.oidc_words.specs.Lives.{access_life}
+use Rattle.oidc_words.specs.Lives.{access_life, family_life}
 use Rattle.op_exchange.specs.declared.ask.OpAsk.{OpAsk}
 use Rattle.op_exchange.specs.declared.reply.OpReply.{OpReply}
 use Rattle.op_answer.specs.Past.{OpPair}
 use Rattle.refresh_answer.specs.declared.rows.FamilyRow.{FamilyRow}
 use Rattle.refresh_answer.specs.declared.rows.RefreshRow.{RefreshRow}
 use Rattle.refresh_answer.specs.declared.rows.AccessRow.{AccessRow}
-use Rattle.refresh_answer.specs.Rows.{family_life, family_begun, token_name, access_name, access_begun}
+use Rattle.refresh_answer.specs.Rows.{family_begun, token_name, access_name, access_begun}
 use Rattle.refresh_answer.specs.Around.{Outer}
 use Rattle.refresh_answer.specs.Families.{family_at, living_in, held_in, row_presented, token_retired, token_made, access_made, families, tokens, accesses}
 use Rattle.refresh_answer.proofs.Families.{some_none, true_false, AreNumbered, found_before, if_lives_parts, living_before}

@@ -10,7 +10,7 @@ use Rattle.sso_base.specs.declared.history.Pair.{Pair}
 use Rattle.sso_base.proofs.Histories.{past_more}
 use Rattle.client_registry.specs.Configuration.{Configuration}
 use Rattle.code_grant.specs.declared.rows.CodeRow.{CodeRow}
-use Rattle.oidc_words.specs.Lives.{turn_life, code_life, access_life}
+use Rattle.oidc_words.specs.Lives.{turn_life, code_life, access_life, family_life}
 use Rattle.held_rows.specs.Held.{MayAddRow}
 use Rattle.token_endpoint.specs.declared.no.GrantNo.TheVariants as no
 use Rattle.op_exchange.specs.declared.ask.OpAsk.{OpAsk}
@@ -39,7 +39,7 @@ use Rattle.refresh_answer.specs.declared.asks.RefreshReply.TheVariants.{Own}
 use Rattle.refresh_answer.specs.declared.rows.FamilyRow.{FamilyRow}
 use Rattle.refresh_answer.specs.declared.rows.RefreshRow.{RefreshRow}
 use Rattle.refresh_answer.specs.declared.rows.AccessRow.{AccessRow}
-use Rattle.refresh_answer.specs.Rows.{family_life, family_begun, access_begun}
+use Rattle.refresh_answer.specs.Rows.{family_begun, access_begun}
 use Rattle.refresh_answer.specs.Around.{Outer, passed, inner_history, reply_around, around, own_pair, merged_history, outer_plain, outer_given, outer_weight, offline_mark, IsRefreshAsk}
 use Rattle.refresh_answer.specs.Families.{if_true, family_for, family_at, families, code_offline, begins}
 use Rattle.refresh_answer.specs.Answering.{Setup, with_first, IsReply, refresh_reply, own_reply, info_reply, IsRefreshReply, IsLegalRefresh}

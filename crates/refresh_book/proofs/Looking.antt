@@ -11,7 +11,7 @@ use Rattle.sso_base.proofs.Lives.{live_later}
 use Rattle.sso_base.proofs.RowLaws.{bool_cases}
 use Rattle.held_rows.proofs.HeldLaws.{distinct_filter}
 use Rattle.held_rows.proofs.RowOf.{row_of-filter, row_of-live_rows}
-use Rattle.oidc_words.specs.Lives.{turn_life, code_life, access_life}
+use Rattle.oidc_words.specs.Lives.{turn_life, code_life, access_life, family_life}
 use Rattle.client_registry.specs.Configuration.{Configuration}
 use Rattle.userinfo.specs.declared.header.Bearer.TheVariants as bearers
 use Rattle.op_exchange.specs.declared.ask.OpAsk.{OpAsk}
@@ -30,7 +30,7 @@ use Rattle.core_stack.proofs.Merging.{inner_of_merged}
 use Rattle.core_stack.proofs.MarksHeld.{turn_is_found, code_is_found}
 use Rattle.refresh_answer.specs.declared.rows.FamilyRow.{FamilyRow}
 use Rattle.refresh_answer.specs.declared.rows.AccessRow.{AccessRow}
-use Rattle.refresh_answer.specs.Rows.{family_life, family_begun, access_name, access_begun}
+use Rattle.refresh_answer.specs.Rows.{family_begun, access_name, access_begun}
 use Rattle.refresh_answer.specs.Around.{Outer, passed, inner_history, around, own_pair, merged_history, outer_plain, outer_given, offline_mark, IsRefreshAsk}
 use Rattle.refresh_answer.specs.Families.{family_at, living_in, families, accesses, access_family, code_offline}
 use Rattle.refresh_answer.specs.Answering.{Setup, family_info, info_reply, IsRefreshReply, IsLegalRefresh}

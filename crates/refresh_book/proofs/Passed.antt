@@ -8,7 +8,7 @@ use Rattle.sso_base.specs.Rows.{put, row_of, lives, if_lives, live_rows}
 use Rattle.sso_base.specs.Stands.{IsDistinct}
 use Rattle.sso_base.proofs.RowLaws.{bool_cases, bytes_same, bytes_true}
 use Rattle.sso_base.specs.declared.history.Pair.{Pair}
-use Rattle.oidc_words.specs.Lives.{access_life}
+use Rattle.oidc_words.specs.Lives.{access_life, family_life}
 use Rattle.code_grant.specs.declared.rows.CodeRow.{CodeRow}
 use Rattle.op_exchange.specs.declared.ask.OpAsk.{OpAsk}
 use Rattle.op_exchange.specs.declared.ask.OpAsk.TheVariants as op_ask
@@ -30,7 +30,7 @@ use Rattle.refresh_answer.specs.declared.asks.RefreshReply.TheVariants.{Through,
 use Rattle.refresh_answer.specs.declared.rows.FamilyRow.{FamilyRow}
 use Rattle.refresh_answer.specs.declared.rows.RefreshRow.{RefreshRow}
 use Rattle.refresh_answer.specs.declared.rows.AccessRow.{AccessRow}
-use Rattle.refresh_answer.specs.Rows.{family_life, family_begun, token_name, access_name, access_begun, new_token}
+use Rattle.refresh_answer.specs.Rows.{family_begun, token_name, access_name, access_begun, new_token}
 use Rattle.refresh_answer.specs.Around.{Outer, reply_around, outer_plain}
 use Rattle.refresh_answer.specs.Families.{family_at, is_replay, is_code_replay, token_code, if_true, family_for, begun_by, appended, living_in, held_in, has_room, families, tokens, accesses, code_offline, code_presented, access_family, ends, begins, row_presented, token_made, token_retired, access_made}
 use Rattle.refresh_answer.specs.Answering.{with_first, family_info, info_reply}

@@ -9,7 +9,7 @@ use Rattle.sso_base.specs.Journal.{history_weight}
 use Rattle.sso_base.specs.declared.history.Pair.{Pair}
 use Rattle.client_registry.specs.Configuration.{Configuration}
 use Rattle.client_registry.specs.Numbers.{is_client, is_user}
-use Rattle.oidc_words.specs.Lives.{access_life}
+use Rattle.oidc_words.specs.Lives.{access_life, family_life}
 use Rattle.code_grant.specs.declared.rows.CodeRow.{CodeRow}
 use Rattle.userinfo.specs.declared.header.Bearer.TheVariants.{Given}
 use Rattle.op_exchange.specs.declared.ask.OpAsk.{OpAsk}
@@ -28,7 +28,7 @@ use Rattle.refresh_answer.specs.declared.asks.RefreshParts.{RefreshParts}
 use Rattle.refresh_answer.specs.declared.asks.OwnReply.{OwnReply}
 use Rattle.refresh_answer.specs.declared.rows.FamilyRow.{FamilyRow}
 use Rattle.refresh_answer.specs.declared.rows.AccessRow.{AccessRow}
-use Rattle.refresh_answer.specs.Rows.{family_life, family_begun, access_begun}
+use Rattle.refresh_answer.specs.Rows.{family_begun, access_begun}
 use Rattle.refresh_answer.specs.Around.{Outer, merged_history, outer_plain, outer_given, outer_weight, offline_mark}
 use Rattle.refresh_answer.specs.Families.{provider_past, living_in, families, accesses, held_tokens}
 use Rattle.refresh_answer.specs.Answering.{Setup, IsLegalRefresh}

@@ -1,5 +1,6 @@
 -- The request in an HTTP request, and a reply as it is sent.
-use Rattle.std.specs.Prelude.{Bool, true, false, ◌&&◌, Option, Some, None, if◌then◌else◌}
+use Rattle.std.proofs.Common.{◌≡◌, Bool, true, false, ◌&&◌, cond, Option, Some, None, refl}
+use Rattle.std.specs.Prelude.{if◌then◌else◌}
 use Rattle.sso_base.specs.Words.{Word, word_text}
 use Rattle.sso_base.specs.declared.http.Ask.{Ask}
 use Rattle.sso_base.specs.declared.http.HttpReply.{HttpReply}
@@ -17,6 +18,7 @@ use Rattle.refresh_answer.specs.declared.asks.OwnReply.{OwnReply}
 use Rattle.refresh_answer.specs.declared.asks.OwnReply.TheVariants as own
 use Rattle.refresh_answer.specs.declared.asks.RefreshReply.{RefreshReply}
 use Rattle.refresh_answer.specs.declared.asks.RefreshReply.TheVariants.{Through, First, Own}
+use Rattle.refresh_answer.specs.Around.{outer_plain}
 use Rattle.refresh_request.specs.Reading.{is_refresh, refresh_read}
 use Rattle.refresh_request.specs.Offline.{asks_offline}
 use Rattle.refresh_request.specs.Printing.{first_text, refreshed_text}
@@ -32,6 +34,18 @@ abbrev pub asked_around : {A : Type 0} → (A → Option OpAsk) → Configuratio
 asked_around plain c request inner =
     if is_token (plain inner) && is_refresh (posted request.body) then ask.Refresh (refresh_read c request.auth request.body)
     else ask.Through inner (asks_offline c request (plain inner))
+
+asked_by : {A : Type 0} (plain : A → Option OpAsk) (b o : Bool) (refresh : RefreshAsk A) (inner : A) (a : OpAsk) → outer_plain plain refresh ≡ None
+    → outer_plain plain (cond b refresh (ask.Through inner o)) ≡ Some a → plain inner ≡ Some a
+asked_by plain true o refresh inner a none same = absurd (cc)
+asked_by plain false o refresh inner a none same = same
+
+-- the provider's request in it, if there is one, is that of the inner core's request
+pub plain_around : {A : Type 0} (plain : A → Option OpAsk) (c : Configuration) (request : Ask) (inner : A) (a : OpAsk)
+    → outer_plain plain (asked_around plain c request inner) ≡ Some a → plain inner ≡ Some a
+plain_around plain c request inner a same =
+    asked_by plain (is_token (plain inner) && is_refresh (posted request.body)) (asks_offline c request (plain inner))
+    (ask.Refresh (refresh_read c request.auth request.body)) inner a refl same
 
 -- a request without further parameters
 abbrev pub alone : {A : Type 0} → A → RefreshAsk A

@@ -168,7 +168,7 @@ impl<P: Provides> Provides for RefreshCore<P> {
     ghost use Rattle.sso_base.specs.Legal.{IsEntry};
     ghost use Rattle.refresh_answer.specs.Around.{inner_history, outer_plain, outer_told, outer_given, outer_notices, IsRefreshAsk};
     ghost use Rattle.refresh_answer.specs.Answering.{inner_setup};
-    ghost use Rattle.refresh_answer.proofs.Passed.{last_inside, outer_adds, outer_given_told, outer_refusals, outer_signs_out};
+    ghost use Rattle.refresh_answer.proofs.Passed.{last_inside, outer_adds, outer_given_told, outer_refusals, outer_signs_out, outer_notices_tell};
 
     ghost provider_registry = { λ x. P.provider_registry x.inner };
 
@@ -280,6 +280,13 @@ impl<P: Provides> Provides for RefreshCore<P> {
 
     ghost signs_out = { λ s h p w legal asked. outer_signs_out P.plain_ask P.given_reply P.provided P.IsAsk P.weighs P.most P.is_legal s h p
         legal P.notices w asked (λ q inside plain. P.signs_out s.inner (inner_history h) q w inside plain) };
+
+    ghost notices_are = { λ s h p legal. outer_notices_tell P.plain_ask P.given_reply P.provided P.IsAsk P.weighs P.most P.is_legal s h p
+        legal P.notices (λ q is. P.notices_are s.inner (inner_history h) q
+        (last_inside P.plain_ask P.given_reply P.provided P.IsAsk P.weighs P.most P.is_legal s h p legal q is)) };
+
+    ghost reads_requests = { λ c request a same. P.reads_requests c request a
+        (spec.plain_around P.plain_ask c request (P.prepared c request) a same) };
 
     ghost plain_of = { P.plain_of };
 }

@@ -3,9 +3,9 @@
 ghost use Rattle.std.specs.Prelude.{◌≡◌, ◌≤◌, ◌==◌, true, not, filter, length};
 ghost use Rattle.std.specs.List.{list_all};
 ghost use Rattle.sso_base.specs.Rows.{without, live_rows};
-ghost use Rattle.oidc_words.specs.Lives.{access_life};
+ghost use Rattle.oidc_words.specs.Lives.{access_life, family_life};
 ghost use Rattle.refresh_answer.specs.Places.{place_bytes};
-ghost use Rattle.refresh_answer.specs.Rows.{family_life, family_name, family_begun, access_begun};
+ghost use Rattle.refresh_answer.specs.Rows.{family_name, family_begun, access_begun};
 ghost use Rattle.refresh_rows.specs.TokenRows as spec;
 
 use crate::matching::OfFamily;

@@ -2,7 +2,8 @@ ghost use Rattle.std.specs.Prelude.{Some, None, refl};
 ghost use Rattle.held_rows.specs.Held.{AnyRow, one_of};
 
 use held_rows::{By, Row};
-use refresh_answer::{FAMILY_LIFE, Place};
+use oidc_words::FAMILY_LIFE;
+use refresh_answer::Place;
 use sso_base::{Moment, Word};
 
 /// A refresh token in a table. It leaves the table with its family.
@@ -18,7 +19,7 @@ pub(crate) struct TokenRow {
 
 impl Row for TokenRow {
     ghost use Rattle.refresh_answer.specs.Places.{place_bytes};
-    ghost use Rattle.refresh_answer.specs.Rows.{family_life};
+    ghost use Rattle.oidc_words.specs.Lives.{family_life};
     ghost use Rattle.refresh_rows.specs.TokenRows.{held_name, held_since};
 
     ghost name = { held_name };

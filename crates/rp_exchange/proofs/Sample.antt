@@ -9,6 +9,7 @@ use Rattle.client_registry.specs.declared.records.Party.{Party}
 use Rattle.oidc_words.specs.declared.response_types.Types.{Types}
 use Rattle.client_registry.specs.Configuration.{Configuration}
 pub use Rattle.client_registry.proofs.SampleRegistry.{op, only_code}
+use Rattle.client_registry.specs.Records.{usual_settings, usual_party_settings}
 use Rattle.id_token.specs.declared.claims.IdClaims.{IdClaims}
 
 abbrev pub url_at : ℕ → Text → WebUrl
@@ -67,6 +68,7 @@ shop =
       userinfo = false;
       signed = false;
       redirect_url = url_at 8081 (codes "/cb");
+      settings = usual_party_settings;
     }
 
 abbrev pub news : Party
@@ -83,6 +85,7 @@ news =
       userinfo = false;
       signed = false;
       redirect_url = url_at 8082 (codes "/cb");
+      settings = usual_party_settings;
     }
 
 abbrev pub sample : Configuration
@@ -99,6 +102,7 @@ sample =
       lasting = false;
       full_pages = false;
       title = [];
+      settings = usual_settings;
     }
 
 -- the claims of an ID Token of this provider for the first client

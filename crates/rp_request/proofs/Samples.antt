@@ -351,11 +351,11 @@ news_is_client = record { id = refl; secret = refl; long_secret = omega arith; o
 
 shop_is_party : IsParty shop
 unfolding url_on_literals parts_of
-shop_is_party = record { name = refl; listen = refl; redirect = refl; path = refl; names = refl; scope = refl; prompt = refl; age = refl }
+shop_is_party = record { name = refl; listen = refl; redirect = refl; path = refl; names = refl; scope = refl; prompt = refl; age = refl; settings = record { workers = refl } }
 
 news_is_party : IsParty news
 unfolding url_on_literals parts_of
-news_is_party = record { name = refl; listen = refl; redirect = refl; path = refl; names = refl; scope = refl; prompt = refl; age = refl }
+news_is_party = record { name = refl; listen = refl; redirect = refl; path = refl; names = refl; scope = refl; prompt = refl; age = refl; settings = record { workers = refl } }
 
 shop_fits : FitsClient shop shop_client
 shop_fits = record { redirect = refl; logout = refl; logout_of = record { server = refl; path = refl }; number = 0; types = refl; has_type = refl }
@@ -398,6 +398,7 @@ sample_is_registry =
       user_rules = tt;
       client_rules = (shop_is_client, (news_is_client, tt));
       party_rules = (shop_is_party, (news_is_party, tt));
+      settings = record { issuer_https = refl; parties_https = refl; workers = refl };
     }
 
 the_page_is_asked_for : prepared sample 1 (got (codes "/cb") []) ≡ ask.Fragment

@@ -1,14 +1,15 @@
 -- The names of a party's cookies: a user agent reads them back, and they differ.
-use Rattle.std.proofs.Common.{◌≡◌, ℕ, zero, suc, Bool, true, false, ◌&&◌, List, [], ◌∷◌, ◌++◌, length, codes, refl, sym, ◌∙◌, true≢false, arith}
+use Rattle.std.proofs.Common.{◌≡◌, ℕ, zero, suc, ◌==◌, take, Bool, true, false, ◌&&◌, List, [], ◌∷◌, ◌++◌, length, codes, refl, sym, ap, ◌∙◌, true≢false, arith}
 use Rattle.std.specs.Prelude.{slice_get}
 use Rattle.std.specs.List.{list_all, AllByRecursion}
 use Rattle.std.specs.Str.{bytes_eq}
 use Rattle.std.proofs.lemmas.Bool.Decides.{nat_tests}
 use Rattle.std.proofs.lemmas.List.{append_cancel_left}
 use Rattle.std.proofs.lemmas.Slice.Eq.{bytes_eq-Decides}
-use Rattle.sso_base.specs.Words.{Text}
+use Rattle.sso_base.specs.Words.{Word, Text}
 use Rattle.sso_base.proofs.Spelling.{both_true}
-use Rattle.http_reply.specs.UserAgent.{is_token_byte, is_cookie_name}
+use Rattle.http_reply.specs.UserAgent.{is_token_byte, is_cookie_name, is_host_name, is_taken, set_cookie}
+use Rattle.http_reply.proofs.Names.{prefixed_name, taken}
 use Rattle.configuration_rows.specs.declared.kind.Alphabet.TheVariants.{PartyName}
 use Rattle.configuration_rows.specs.Kinds.{allows, is_within}
 use Rattle.client_registry.specs.declared.records.Party.{Party}
@@ -47,11 +48,33 @@ names_bytes [] (suc n) all = refl
 names_bytes (p ∷ ps) zero all = name_bytes p all.0
 names_bytes (p ∷ ps) (suc n) all = names_bytes ps n all.1
 
-pub browser_name : (c : Configuration) (n : ℕ) → IsRegistry c → is_cookie_name (browser_cookie (party_name c n)) ≡ true
-browser_name c n r = ended_name (party_name c n) 95 (codes "b") (names_bytes c.parties n r.party_rules) refl
+pub browser_name : (c : Configuration) (n : ℕ) → IsRegistry c → is_cookie_name (browser_cookie c.settings.host_cookies (party_name c n)) ≡ true
+browser_name c n r =
+    prefixed_name c.settings.host_cookies (party_name c n ++ codes "_b") (ended_name (party_name c n) 95 (codes "b") (names_bytes c.parties n r.party_rules) refl)
 
-pub session_name : (c : Configuration) (n : ℕ) → IsRegistry c → is_cookie_name (session_cookie (party_name c n)) ≡ true
-session_name c n r = ended_name (party_name c n) 95 (codes "s") (names_bytes c.parties n r.party_rules) refl
+pub session_name : (c : Configuration) (n : ℕ) → IsRegistry c → is_cookie_name (session_cookie c.settings.host_cookies (party_name c n)) ≡ true
+session_name c n r =
+    prefixed_name c.settings.host_cookies (party_name c n ++ codes "_s") (ended_name (party_name c n) 95 (codes "s") (names_bytes c.parties n r.party_rules) refl)
+
+-- ---- no name of a party's cookie has the prefix of itself
+
+not_underscore : (b : ℕ) → allows PartyName b ≡ true → (b == 95) ≡ false
+not_underscore b h = grind (arith, nat_tests)
+
+no_host_name : (t ending : Text) → list_all (allows PartyName) t ≡ true → is_host_name ending ≡ false → is_host_name (t ++ ending) ≡ false
+no_host_name [] ending all rest = rest
+no_host_name (b ∷ t) ending all rest =
+    ap (λ x. x && bytes_eq (take 6 (t ++ ending)) (codes "_Host-")) (not_underscore b (both_true (allows PartyName b) (list_all (allows PartyName) t) all).0)
+
+pub browser_is_taken : (c : Configuration) (n : ℕ) (w : Word) → IsRegistry c → is_taken (set_cookie c.secure (browser_cookie c.settings.host_cookies (party_name c n)) w) ≡ true
+browser_is_taken c n w r =
+    taken c.secure c.settings.host_cookies (party_name c n ++ codes "_b") w r.settings.issuer_https
+    (no_host_name (party_name c n) (codes "_b") (names_bytes c.parties n r.party_rules) refl)
+
+pub session_is_taken : (c : Configuration) (n : ℕ) (w : Word) → IsRegistry c → is_taken (set_cookie c.secure (session_cookie c.settings.host_cookies (party_name c n)) w) ≡ true
+session_is_taken c n w r =
+    taken c.secure c.settings.host_cookies (party_name c n ++ codes "_s") w r.settings.issuer_https
+    (no_host_name (party_name c n) (codes "_s") (names_bytes c.parties n r.party_rules) refl)
 
 -- ---- names that differ
 

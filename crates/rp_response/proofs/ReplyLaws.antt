@@ -20,7 +20,7 @@ use Rattle.html_pages.proofs.EscapedTexts.{inert}
 use Rattle.html_pages.proofs.PostedTags.{five, posted_over, form_read, document_posts_its_content}
 use Rattle.html_pages.proofs.Slices.{in_second, in_document}
 use Rattle.html_pages.proofs.ShownReplies.{line_if_plain, never_empty}
-use Rattle.rp_response.specs.FullPages.{begin_link, leave_button, user_content, full_user_page, refusal_advice, refused_content, full_refused_page, is_of_logout, user_page, nobody_page, left_page, refused_page}
+use Rattle.rp_response.specs.FullPages.{begin_link, onward_link, leave_button, user_content, full_user_page, refusal_advice, refused_content, full_refused_page, is_of_logout, user_page, nobody_page, left_page, refused_page}
 use Rattle.rp_response.specs.Page.{fragment_page}
 use Rattle.rp_response.specs.Refusals.{refusal_line}
 use Rattle.rp_response.specs.Lines.{line_of}
@@ -83,7 +83,7 @@ line_there : (t : Text) (why : RpNo) → HasSubslice (full_refused_page t why) (
 unfolding refused_content
 line_there t why =
     let line : Text = escaped (refusal_line why) in
-    let before : Text = alert (refusal_advice why) ++ begin_link (codes "Begin again") in
+    let before : Text = alert (refusal_advice why) ++ onward_link why ++ begin_link (codes "Begin again") in
     in_document (codes "Signing in failed") t (refused_content why) line
     (in_second before (small_line (refusal_line why)) line (codes "<p><small>", codes "</small></p>\n", refl))
 

@@ -26,22 +26,25 @@ use Rattle.rp_response.specs.Told.{words_set, sends_on, is_full}
 
 -- ---- cookies
 
-words_of_an_ask : words_set (codes "shop") (reply.Ask (codes "u") (word 1)) ≡ (codes "shop_b", word 1) ∷ []
+words_of_an_ask : words_set false (codes "shop") (reply.Ask (codes "u") (word 1)) ≡ (codes "shop_b", word 1) ∷ []
 words_of_an_ask = refl
 
-words_of_a_session : words_set (codes "news") (reply.Entered (word 3) (codes "alice")) ≡ (codes "news_s", word 3) ∷ []
+words_of_a_session : words_set false (codes "news") (reply.Entered (word 3) (codes "alice")) ≡ (codes "news_s", word 3) ∷ []
 words_of_a_session = refl
 
-words_of_a_user : words_set (codes "news") (reply.User (codes "alice")) ≡ []
+words_of_a_user : words_set false (codes "news") (reply.User (codes "alice")) ≡ []
 words_of_a_user = refl
 
-a_session_is_set : sets_cookie (session_cookie (codes "shop")) (codes "shop_b=v; Path=/" ∷ codes "shop_s=w; Path=/" ∷ []) ≡ true
+words_of_a_session_of_a_host : words_set true (codes "news") (reply.Entered (word 3) (codes "alice")) ≡ (codes "__Host-news_s", word 3) ∷ []
+words_of_a_session_of_a_host = refl
+
+a_session_is_set : sets_cookie (session_cookie false (codes "shop")) (codes "shop_b=v; Path=/" ∷ codes "shop_s=w; Path=/" ∷ []) ≡ true
 a_session_is_set = refl
 
-no_session_is_set : sets_cookie (session_cookie (codes "shop")) (codes "news_s=w; Path=/" ∷ codes "shop_s; Path=/" ∷ []) ≡ false
+no_session_is_set : sets_cookie (session_cookie false (codes "shop")) (codes "news_s=w; Path=/" ∷ codes "shop_s; Path=/" ∷ []) ≡ false
 no_session_is_set = refl
 
-a_cookie_is_kept : kept false (browser_cookie (codes "shop"), word 3) ≡ cookie_read (codes "shop_b=AAAAAAAAAAAAAAAAAAAAAAAAAAAAAAAAAAAAAAAAAAM; Path=/; HttpOnly; SameSite=Lax")
+a_cookie_is_kept : kept false (browser_cookie false (codes "shop"), word 3) ≡ cookie_read (codes "shop_b=AAAAAAAAAAAAAAAAAAAAAAAAAAAAAAAAAAAAAAAAAAM; Path=/; HttpOnly; SameSite=Lax")
 unfolding base64url_on_literals
 a_cookie_is_kept = refl
 

@@ -16,7 +16,7 @@ use Rattle.rp_response.specs.Cookies.{browser_cookie, session_cookie}
 use Rattle.rp_response.specs.Lines.{line_of}
 use Rattle.rp_response.specs.FullPages.{is_of_logout}
 use Rattle.rp_response.specs.Telling.{http_of}
-use Rattle.http_reply.specs.Told.{kept, sets_cookie}
+use Rattle.http_reply.specs.Told.{AreTaken, kept, sets_cookie}
 use Rattle.rp_response.specs.Told.{browser_given, session_given, words_set}
 
 -- ---- cookies
@@ -24,17 +24,22 @@ use Rattle.rp_response.specs.Told.{browser_given, session_given, words_set}
 abbrev pub CookiesAreTheWordsOfReplies : Type 0
 CookiesAreTheWordsOfReplies =
     (c : Configuration) (n : ℕ) (r : RpReply) → IsRegistry c
-    → map cookie_read (http_of c n r).cookies ≡ map (kept c.secure) (words_set (party_name c n) r)
+    → map cookie_read (http_of c n r).cookies ≡ map (kept c.secure) (words_set c.settings.host_cookies (party_name c n) r)
 
 abbrev pub BrowserCookiesAreSet : Type 0
 BrowserCookiesAreSet =
     (c : Configuration) (n : ℕ) (r : RpReply) → IsRegistry c
-    → sets_cookie (browser_cookie (party_name c n)) (http_of c n r).cookies ≡ is_some (browser_given r)
+    → sets_cookie (browser_cookie c.settings.host_cookies (party_name c n)) (http_of c n r).cookies ≡ is_some (browser_given r)
 
 abbrev pub SessionCookiesAreSet : Type 0
 SessionCookiesAreSet =
     (c : Configuration) (n : ℕ) (r : RpReply) → IsRegistry c
-    → sets_cookie (session_cookie (party_name c n)) (http_of c n r).cookies ≡ is_some (session_given r)
+    → sets_cookie (session_cookie c.settings.host_cookies (party_name c n)) (http_of c n r).cookies ≡ is_some (session_given r)
+
+-- a user agent takes them (RFC 6265bis, 4.1.3.2)
+abbrev pub CookiesAreTaken : Type 0
+CookiesAreTaken =
+    (c : Configuration) (n : ℕ) (r : RpReply) → IsRegistry c → AreTaken c.secure (words_set c.settings.host_cookies (party_name c n) r)
 
 -- ---- errors
 

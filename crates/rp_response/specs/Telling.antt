@@ -3,28 +3,27 @@
 use Rattle.std.specs.Prelude.{ℕ, Bool, [], ◌∷◌, ◌++◌, codes}
 use Rattle.sso_base.specs.Words.{Word, Text}
 use Rattle.sso_base.specs.declared.http.HttpReply.{HttpReply}
-use Rattle.http_reply.specs.Cookies.{cookie}
 use Rattle.http_reply.specs.Replies.{html, plain, empty, sent_to}
 use Rattle.html_pages.specs.Documents.{shown}
 use Rattle.client_registry.specs.Configuration.{Configuration}
-use Rattle.client_registry.specs.Numbers.{party_name, party_client}
+use Rattle.client_registry.specs.Numbers.{party_client}
 use Rattle.rp_exchange.specs.declared.no.RpNo.{RpNo}
 use Rattle.rp_exchange.specs.declared.no.RpNo.TheVariants as no
 use Rattle.rp_exchange.specs.declared.reply.RpReply.{RpReply}
 use Rattle.rp_exchange.specs.declared.reply.RpReply.TheVariants as reply
 use Rattle.oidc_words.specs.Paths.{home_path}
-use Rattle.rp_response.specs.Cookies.{browser_cookie, session_cookie}
+use Rattle.rp_response.specs.Cookies.{browser_cookies, session_cookies}
 use Rattle.rp_response.specs.Page.{fragment_page}
 use Rattle.rp_response.specs.Refusals.{refusal_line}
 use Rattle.rp_response.specs.FullPages.{user_page, nobody_page, left_page, refused_page}
 
--- ---- logins, at the party with a name
+-- ---- logins, at the party with this number
 
-abbrev pub asked : Bool → Text → Text → Word → HttpReply
-asked secure party to browser = sent_to to (cookie secure (browser_cookie party) browser ∷ [])
+abbrev pub asked : Configuration → ℕ → Text → Word → HttpReply
+asked c n to browser = sent_to to (browser_cookies c n browser)
 
-abbrev pub entered : Bool → Text → Word → HttpReply
-entered secure party session = sent_to home_path (cookie secure (session_cookie party) session ∷ [])
+abbrev pub entered : Configuration → ℕ → Word → HttpReply
+entered c n session = sent_to home_path (session_cookies c n session)
 
 abbrev pub fragment : HttpReply
 fragment = html [] fragment_page
@@ -55,11 +54,11 @@ refused c n why = shown (refused_status why) (refused_page c.full_pages (party_t
 -- ---- each reply, at the party with this number
 
 unfoldable pub http_of : Configuration → ℕ → RpReply → HttpReply
-http_of c n (reply.Ask to browser) = asked c.secure (party_name c n) to browser
+http_of c n (reply.Ask to browser) = asked c n to browser
 http_of c n reply.Fragment = fragment
 http_of c n (reply.Exchange pending message) = plain 502 (codes "pending")
 http_of c n (reply.Fetch pending message) = plain 502 (codes "pending")
-http_of c n (reply.Entered session sub) = entered c.secure (party_name c n) session
+http_of c n (reply.Entered session sub) = entered c n session
 http_of c n (reply.User sub) = user c n sub
 http_of c n reply.Nobody = nobody c n
 http_of c n (reply.Left ended) = left c n

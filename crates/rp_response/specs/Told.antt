@@ -20,9 +20,9 @@ abbrev pub session_given : RpReply → Option Word
 session_given (Entered session sub) = Some session
 session_given reply = None
 
--- the words that a reply of the party with this name sets
-abbrev pub words_set : Text → RpReply → List Named
-words_set party reply = words_named (browser_cookie party) (browser_given reply) ++ words_named (session_cookie party) (session_given reply)
+-- the words that a reply of the party with this name sets, under names with the prefix `__Host-` or without it
+abbrev pub words_set : Bool → Text → RpReply → List Named
+words_set host party reply = words_named (browser_cookie host party) (browser_given reply) ++ words_named (session_cookie host party) (session_given reply)
 
 -- ---- redirects, and errors because a table is full
 

@@ -6,21 +6,27 @@ ghost use Rattle.rp_response.specs.FullPages as spec;
 ghost use Rattle.rp_response.specs.Refusals.{refusal_line};
 
 use html_pages::Page;
-use oidc_words::{AuthError, BEGIN_PATH, LEAVE_PATH};
+use oidc_words::{AuthError, BEGIN_PATH, HOME_PATH, LEAVE_PATH};
 use rp_exchange::RpNo;
 use rp_login::RpTable;
 use sso_base::{Blob, NoMemory};
 use std::alloc::Global;
 
-#[tactic(auto, unfolding(crate::specs::FullPages::begin_link))]
-fn push_begin(page: &mut Page, words: &str) -> Result<(), NoMemory>
-    ensures { OnOk result (page.new ≡ page.old ++ spec.begin_link words.now) }
+#[tactic(auto, unfolding(crate::specs::FullPages::link_to))]
+fn push_link(page: &mut Page, path: &str, words: &str) -> Result<(), NoMemory>
+    ensures { OnOk result (page.new ≡ page.old ++ spec.link_to path.now words.now) }
 {
     page.push("<p><a class=\"go\" href=\"")?;
-    page.push(BEGIN_PATH)?;
+    page.push(path)?;
     page.push("\">")?;
     page.push(words)?;
     page.push("</a></p>\n")
+}
+
+fn push_begin(page: &mut Page, words: &str) -> Result<(), NoMemory>
+    ensures { OnOk result (page.new ≡ page.old ++ spec.begin_link words.now) }
+{
+    push_link(page, BEGIN_PATH, words)
 }
 
 // A page with a heading and a link that begins a login.
@@ -114,7 +120,18 @@ fn refusal_advice(why: &RpNo) -> &'static str
     match why {
         RpNo::Provider(code) => denied_advice(*code),
         RpNo::Full(_) => "Too many people are signing in. Please wait for some minutes.",
+        RpNo::Tokens(_) | RpNo::Id(_) | RpNo::Info(_) =>
+            "This site could not finish the sign-in. Its operator can see why from the line below.",
         _ => "It took too long, was done already, or began in another browser.",
+    }
+}
+
+fn push_onward(page: &mut Page, why: &RpNo) -> Result<(), NoMemory>
+    ensures { OnOk result (page.new ≡ page.old ++ spec.onward_link why.now) }
+{
+    match why {
+        RpNo::StaleLogin => push_link(page, HOME_PATH, "Go on, if you are signed in"),
+        _ => Ok(()),
     }
 }
 
@@ -124,6 +141,7 @@ fn push_refused(page: &mut Page, why: &RpNo, line: &str) -> Result<(), NoMemory>
     ensures { OnOk result (page.new ≡ page.old ++ spec.refused_content why.now) }
 {
     page.push_alert(refusal_advice(why))?;
+    push_onward(page, why)?;
     push_begin(page, "Begin again")?;
     page.push_line(line)
 }

@@ -15,16 +15,17 @@ ghost use Rattle.rp_exchange.specs.declared.reply.RpReply.TheVariants as reply;
 ghost use Rattle.rp_response.specs.Telling.{http_of};
 ghost use Rattle.rp_response.specs.Lines.{line_of};
 ghost use Rattle.rp_response.specs.Told.{sends_on, is_full};
-ghost use Rattle.rp_response.specs.Laws.{CookiesAreTheWordsOfReplies, BrowserCookiesAreSet, SessionCookiesAreSet};
+ghost use Rattle.rp_response.specs.Laws.{CookiesAreTheWordsOfReplies, BrowserCookiesAreSet, SessionCookiesAreSet, CookiesAreTaken};
 ghost use Rattle.rp_response.specs.Laws.{PlainErrorsAreTheirLines, LogoutErrorsAreTheirLines, FullErrorsShowTheirLines, FullFrontPagesLeave};
 
 /// The cookies of a reply hold exactly the words that it sets: the browser word when a login begins, and the session word when
 /// a session begins. A user agent reads each under its name as the word's text, for every path, `HttpOnly`, `SameSite=Lax` and,
-/// if and only if the issuer is https, `Secure` (RFC 6265, 5.2).
+/// if and only if the issuer is https, `Secure` (RFC 6265, 5.2), and takes it, whether names begin with `__Host-` or not.
 pub fn cookies_hold_the_words_of_replies()
     ensures read { CookiesAreTheWordsOfReplies }
     ensures browser { BrowserCookiesAreSet }
     ensures session { SessionCookiesAreSet }
+    ensures taken { CookiesAreTaken }
 {}
 
 /// When a login or a session begins, the reply redirects the user agent with status 303: to the provider, or to the page that

@@ -6,7 +6,7 @@
 //! | `telling` | [`rp_http`]: the status, the fields and the body of a reply |
 //! | `page` | the page that posts the fragment of its location |
 //! | `full_pages` | the full pages: the front page, after it was left, and for a login that failed |
-//! | `cookies` | the browser's cookie and the session's |
+//! | `cookies` | [`browser_cookie`] and [`session_cookie`], the names of the browser's cookie and the session's |
 //! | `lines` | [`rp_line`]: the line of a reply |
 //! | `refusals` | the printed names of errors |
 //! | `law` | laws about the output of replies, for the crates above |
@@ -20,6 +20,7 @@ mod page;
 mod refusals;
 mod telling;
 
+pub use cookies::{browser_cookie, session_cookie};
 pub use law::{
     cookies_hold_the_words_of_replies, full_front_pages_leave, lines_tell_no_words_and_no_values,
     lines_tell_subjects_and_codes, logins_send_the_user_agent_on, messages_are_not_told,

@@ -18,21 +18,28 @@ use std::alloc::Global;
 
 fn asked(
     alloc: Global,
-    secure: bool,
-    party: &Text,
+    registry: &Registry,
+    party: u32,
     to: &Text,
     browser: &Word,
 ) -> Result<HttpReply, NoMemory>
-    ensures { IfOk result (λ h. h ≡ spec.asked secure party.now to.now browser.now) }
+    requires { party < length registry.now.parties }
+    ensures { IfOk result (λ h. h ≡ spec.asked registry.now party to.now browser.now) }
 {
-    let cookies = browser_cookies(alloc, secure, party, browser)?;
+    let cookies = browser_cookies(alloc, registry, party, browser)?;
     Ok(sent_to(alloc, to.copy(alloc)?, cookies))
 }
 
-fn entered(alloc: Global, secure: bool, party: &Text, session: &Word) -> Result<HttpReply, NoMemory>
-    ensures { IfOk result (λ h. h ≡ spec.entered secure party.now session.now) }
+fn entered(
+    alloc: Global,
+    registry: &Registry,
+    party: u32,
+    session: &Word,
+) -> Result<HttpReply, NoMemory>
+    requires { party < length registry.now.parties }
+    ensures { IfOk result (λ h. h ≡ spec.entered registry.now party session.now) }
 {
-    let cookies = session_cookies(alloc, secure, party, session)?;
+    let cookies = session_cookies(alloc, registry, party, session)?;
     Ok(sent_to(alloc, Text::new(alloc, HOME_PATH)?, cookies))
 }
 
@@ -111,7 +118,8 @@ fn refused(
 ///
 /// An authorization request and a new session redirect the user agent with status 303, to the provider and to `/`. The former
 /// sets the browser's cookie `NAME_b` and the latter the session's `NAME_s`, where `NAME` is the party's. A cookie is a word's
-/// text, for every path, `HttpOnly`, `SameSite=Lax` and, if the issuer is https, `Secure` (RFC 6265, 4.1).
+/// text, for every path, `HttpOnly`, `SameSite=Lax` and, if the issuer is https, `Secure` (RFC 6265, 4.1). If the registry says so,
+/// both names begin with `__Host-`.
 ///
 /// The fragment page is HTML; it reads the fragment and posts it to its own location. The reply to an accepted logout is empty,
 /// with status 200 (OpenID Connect Back-Channel Logout 1.0, 2.8). The replies that show who is logged in, and that a session is
@@ -131,13 +139,11 @@ pub fn rp_http(
     requires { party < length registry.now.parties }
     ensures { IfOk result (λ h. h ≡ spec.http_of registry.now party reply.now) }
 {
-    let secure = registry.secure();
-    let name = &registry.party(party).name;
     match reply {
-        RpReply::Ask { to, browser } => asked(alloc, secure, name, to, browser),
+        RpReply::Ask { to, browser } => asked(alloc, registry, party, to, browser),
         RpReply::Fragment => fragment(alloc),
         RpReply::Exchange { .. } | RpReply::Fetch { .. } => plain(alloc, 502, "pending"),
-        RpReply::Entered { session, .. } => entered(alloc, secure, name, session),
+        RpReply::Entered { session, .. } => entered(alloc, registry, party, session),
         RpReply::User { sub } => user(alloc, registry, party, sub),
         RpReply::Nobody => nobody(alloc, registry, party),
         RpReply::Left { .. } => left(alloc, registry, party),

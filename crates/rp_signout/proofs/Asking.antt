@@ -24,7 +24,8 @@ use Rattle.signout_answer.specs.declared.parts.EndParts.TheVariants as parts
 use Rattle.signout_answer.specs.declared.parts.Doing.{Doing}
 use Rattle.signout_answer.specs.declared.parts.Doing.TheVariants as does
 use Rattle.signout_answer.specs.declared.questions.QuestionRow.{QuestionRow}
-use Rattle.signout_answer.specs.Questions.{question_life, question_name, question_begun, unless_ended}
+use Rattle.oidc_words.specs.Lives.{question_life}
+use Rattle.signout_answer.specs.Questions.{question_name, question_begun, unless_ended}
 use Rattle.signout_answer.specs.Around.{Outer, ask_around, reply_around, own_reply}
 use Rattle.signout_answer.specs.Answering.{question_of, question_by, ended_by, is_small, question_doing, start_doing, question_made, question_kept, questions, held_questions, has_room, doing}
 use Rattle.signout_answer.proofs.Questioning.{unless_same, question_same, question_names, question_begins}

@@ -20,7 +20,8 @@ use Rattle.signout_answer.specs.declared.parts.EndParts.TheVariants as parts
 use Rattle.signout_answer.specs.declared.parts.Doing.{Doing}
 use Rattle.signout_answer.specs.declared.parts.Doing.TheVariants as does
 use Rattle.signout_answer.specs.declared.questions.QuestionRow.{QuestionRow}
-use Rattle.signout_answer.specs.Questions.{question_life, question_name, question_begun}
+use Rattle.oidc_words.specs.Lives.{question_life}
+use Rattle.signout_answer.specs.Questions.{question_name, question_begun}
 use Rattle.signout_answer.specs.Around.{Outer, IsEndAsk, passed, inner_history, ask_around, reply_around, around, own_reply, own_pair, merged_history, end_weight}
 use Rattle.signout_answer.specs.Answering.{question_by, IsReply, doing, IsEndReply, SignoutSetup, IsLegalSignout}
 use Rattle.signout_answer.proofs.Inside.{own_is_not_passed, around_is_passed, passed_moment, passed_weight, around_weighs}

@@ -15,7 +15,8 @@ use Rattle.core_stack.proofs.Merging.{inner_of_merged}
 use Rattle.signout_answer.specs.declared.parts.Doing.{Doing}
 use Rattle.signout_answer.specs.declared.asks.EndSetup.{EndSetup}
 use Rattle.signout_answer.specs.declared.questions.QuestionRow.{QuestionRow}
-use Rattle.signout_answer.specs.Questions.{question_life, question_name, question_begun}
+use Rattle.oidc_words.specs.Lives.{question_life}
+use Rattle.signout_answer.specs.Questions.{question_name, question_begun}
 use Rattle.signout_answer.specs.Around.{Outer, passed, inner_history, around, own_pair, merged_history}
 use Rattle.signout_answer.specs.Answering.{is_sign_out, if_answered, question_in, confirm_doing, question_made, question_kept, questions, has_room}
 use Rattle.signout_answer.specs.Answering.{asked_question, SignoutSetup}

@@ -1,8 +1,9 @@
 -- The definitions computed: what each accepts, and what it refuses.
 use Rattle.std.proofs.Common.{◌≡◌, true, false, [], ◌∷◌, Some, None, codes, refl}
-use Rattle.sso_base.specs.Words.{word_of_text}
+use Rattle.sso_base.specs.Words.{word_text, word_of_text}
 use Rattle.sso_base.specs.declared.http.Ask.{Ask}
 use Rattle.sso_base.specs.declared.http.HttpReply.{HttpReply}
+use Rattle.sso_base.specs.declared.http.Kind.TheVariants.{Html}
 use Rattle.sso_base.specs.declared.http.Method.TheVariants.{Get}
 use Rattle.http_reply.specs.Replies.{plain, sent_to}
 use Rattle.client_registry.specs.Configuration.{Configuration}
@@ -21,7 +22,7 @@ use Rattle.signout_answer.specs.declared.questions.QuestionRow.{QuestionRow}
 use Rattle.rp_signout.specs.declared.decision.Verdict.TheVariants as decided
 use Rattle.rp_signout.specs.declared.routes.Route.TheVariants.{Start, Confirm}
 use Rattle.rp_signout.specs.Keeps.{rows_left, room_in, own_ended, parts_ended, parts_back, is_passable, confirmed_doing}
-use Rattle.rp_signout.specs.Pages.{gone_shown, end_http}
+use Rattle.rp_signout.specs.Pages.{question_page, gone_shown, end_http}
 use Rattle.rp_signout.specs.Prepared.{get_route, post_route, route_asked, confirm_asked}
 
 -- ---- the path
@@ -88,7 +89,31 @@ no_such_question = refl
 signed_out : end_http http sample (reply.Gone None (op_told.SignedOut [])) ≡ plain 200 (codes "signed out")
 signed_out = refl
 
-sent_back : gone_shown (Some (codes "http://127.0.0.1:8081/bye")) ≡ sent_to (codes "http://127.0.0.1:8081/bye") []
+no_room : end_http http sample reply.Full ≡ plain 503 (codes "full")
+no_room = refl
+
+stays : end_http http sample reply.Kept ≡ plain 200 (codes "kept")
+stays = refl
+
+a_plain_question : (end_http http sample (reply.Sure (word 6))).body ≡ question_page [] (word_text (word 6))
+a_plain_question = refl
+
+abbrev titled : Configuration
+titled = record sample { full_pages = true; title = codes "Accounts" }
+
+a_full_question_is_html : (end_http http titled (reply.Sure (word 6))).kind ≡ Html
+a_full_question_is_html = refl
+
+refused_requests_have_a_page : (end_http http titled (reply.Wrong no.Hint)).kind ≡ Html
+refused_requests_have_a_page = refl
+
+refused_pages_have_their_status : (end_http http titled (reply.Wrong no.Hint)).status ≡ 400
+refused_pages_have_their_status = refl
+
+stale_pages_have_their_status : (end_http http titled reply.Stale).status ≡ 400
+stale_pages_have_their_status = refl
+
+sent_back : gone_shown sample (Some (codes "http://127.0.0.1:8081/bye")) ≡ sent_to (codes "http://127.0.0.1:8081/bye") []
 sent_back = refl
 
 -- ---- the table

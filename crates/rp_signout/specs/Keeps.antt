@@ -25,7 +25,8 @@ use Rattle.signout_answer.specs.declared.parts.EndParts.TheVariants as parts
 use Rattle.signout_answer.specs.declared.parts.Doing.{Doing}
 use Rattle.signout_answer.specs.declared.parts.Doing.TheVariants as does
 use Rattle.signout_answer.specs.declared.questions.QuestionRow.{QuestionRow}
-use Rattle.signout_answer.specs.Questions.{question_life, question_name, question_begun}
+use Rattle.oidc_words.specs.Lives.{question_life}
+use Rattle.signout_answer.specs.Questions.{question_name, question_begun}
 use Rattle.signout_answer.specs.Around.{Outer, reply_around, merged_history, end_weight}
 use Rattle.signout_answer.specs.Answering.{question_of, questions, SignoutSetup, IsLegalSignout}
 use Rattle.rp_signout.specs.declared.decision.Verdict.{Verdict}

@@ -11,12 +11,15 @@
 //! | `deciding` | how a request is answered |
 //! | `step` | one step |
 //! | `routes`, `preparing` | the requests in HTTP requests |
-//! | `pages`, `telling` | the page with a question, and replies in HTTP |
+//! | `pages`, `full_pages`, `telling` | the page with a question, plain and full, and replies in HTTP |
+//! | `law` | [`full_questions_post_what_plain_ones_post`] |
 //! | `providing` | the core as one that the provider is in |
 #![tactic(auto)]
 
 mod deciding;
 mod decision;
+mod full_pages;
+mod law;
 mod pages;
 mod preparing;
 mod providing;
@@ -26,4 +29,5 @@ mod step;
 mod table;
 mod telling;
 
+pub use law::full_questions_post_what_plain_ones_post;
 pub use signout_core::SignoutCore;

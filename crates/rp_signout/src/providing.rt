@@ -16,8 +16,9 @@ impl<P: Provides> Provides for SignoutCore<P> {
     ghost use Rattle.std.specs.Prelude.{◌≡◌};
     ghost use Rattle.sso_base.specs.Legal.{IsEntry};
     ghost use Rattle.signout_answer.specs.Around.{inner_history, plain_inside, reply_inside, notices_inside, IsEndAsk};
-    ghost use Rattle.signout_answer.proofs.Providing.{same_inside, end_adds, end_given_told, end_refusals, end_signs_out};
+    ghost use Rattle.signout_answer.proofs.Providing.{same_inside, end_adds, end_given_told, end_refusals, end_signs_out, end_notices_tell};
     ghost use Rattle.rp_signout.specs.Prepared as spec;
+    ghost use Rattle.rp_signout.specs.Reading as reading;
     ghost use Rattle.rp_signout.specs.Pages as pages;
 
     ghost provider_registry = { λ x. P.provider_registry x.inner };
@@ -117,6 +118,12 @@ impl<P: Provides> Provides for SignoutCore<P> {
 
     ghost signs_out = { λ s h p w legal asked. end_signs_out P.plain_ask P.given_reply P.IsAsk P.weighs P.most P.is_legal s h p P.notices w legal asked
         (λ q inside plain. P.signs_out s.inner (inner_history h) q w inside plain) };
+
+    ghost notices_are = { λ s h p legal. end_notices_tell P.plain_ask P.given_reply P.IsAsk P.weighs P.most P.is_legal s h p P.notices P.provided legal
+        (λ q inside. P.notices_are s.inner (inner_history h) q inside) };
+
+    ghost reads_requests = { λ c request a same. P.reads_requests c request a
+        (reading.plain_read P.plain_ask P.prepared P.from_op c request a same) };
 
     ghost plain_of = { P.plain_of };
 }

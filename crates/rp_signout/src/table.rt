@@ -4,7 +4,8 @@ ghost use Rattle.std.specs.Prelude.{◌≡◌, ◌<◌, length, true, option_and
 ghost use Rattle.std.specs.Option.{option_copied};
 ghost use Rattle.sso_base.specs.Rows.{put, row_of, if_lives, live_rows};
 ghost use Rattle.held_rows.specs.Held.{AnyRow, IsHeld, MayAddRow};
-ghost use Rattle.signout_answer.specs.Questions.{question_life, question_name, question_begun};
+ghost use Rattle.oidc_words.specs.Lives.{question_life};
+ghost use Rattle.signout_answer.specs.Questions.{question_name, question_begun};
 ghost use Rattle.rp_signout.specs.Keeps as spec;
 
 use held_rows::Held;

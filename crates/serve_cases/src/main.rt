@@ -10,6 +10,7 @@
 //! |---|---|
 //! | `file|NAME|BYTES`, `lines|NAME|LINES` | from now on, the file with this name has these bytes, or these lines, which are separated by `/` |
 //! | `ends|DESK` | how each connection of one desk is served, by one worker |
+//! | `busy|DESK` | the same while another worker proves a password |
 //! | `reads|BYTES` | how many reads a request has, any of which ends its connection if it fails, and how it is served if none does |
 //! | `work|DESK` | how one worker ends at one desk |
 //! | `serve|DESK|..` | the summary of the server, and each desk |
@@ -22,7 +23,7 @@
 //! | `this machine` | the exit status and the text of `op` at a desk over this machine, and its reply to a client that requests the keys |
 //! | `last|SHELF|SINK|WORDS` | the exit status for the words with no desk, how many lines the text has, and the last of them |
 //!
-//! `ends`, `work` and `serve` use their own role, whose core is full after one request. `calls`, `often` and `two threads` use only
+//! `ends`, `busy`, `work` and `serve` use their own role, whose core is full after one request, and for which each POST proves a password. `calls`, `often` and `two threads` use only
 //! that core, which replies with the number of the entries before. In `often|lasting` its history lasts. The top call serves the
 //! provider and the parties. SHELF and SINK are the numbers of the failing calls, and 0 is none. A sink `slow CALL` takes one byte
 //! at a call.
@@ -32,7 +33,7 @@
 //! | `desks` | desks in memory: reads them from a field, and prints them |
 //! | `tick`, `tally`, `tally_role` | the core that counts its requests, and the role over it |
 //! | `passes`, `one_pass`, `two_passes`, `often` | the calls `calls`, `two threads` and `often`: a store over that core |
-//! | `workers` | the calls `ends`, `reads` and `work`: one worker over its own store |
+//! | `workers` | the calls `ends`, `busy`, `reads` and `work`: one worker over its own store |
 //! | `servers` | the call `serve` |
 //! | `files`, `top` | the calls `file`, `lines`, `sso` and `last` |
 //! | `meeting`, `login_door`, `two` | desks that wait for each other |
@@ -65,6 +66,7 @@ use std::alloc::{AllocGlobal, Global};
 use std::io;
 use std::net::{Net, TcpListener, TcpStream};
 use std::random::RandomSource;
+use std::rt::Files;
 use std::sync::Wait;
 use std::thread::Threads;
 use std::time::Clock;
@@ -106,7 +108,7 @@ impl Cases for ServeCases {
 fn answer<R>(rt: &R, alloc: Global, cases: &mut ServeCases, line: &str) -> Result<String, NoMemory>
 where
     R: Threads + Wait + Net<Listener = TcpListener, Stream = TcpStream>,
-    R: Clock + RandomSource + Sync + AllocGlobal,
+    R: Clock + RandomSource + Files + Sync + AllocGlobal,
 {
     let whole = written_out(alloc, cases, line)?;
     let fields: Vec<&str> = whole.as_str().split('|').collect(alloc)?;
@@ -119,7 +121,7 @@ where
             let call = top::Call { shelf, sink, words };
             top::last(rt, alloc, cases.files.as_slice(), &call)
         }
-        [call @ ("ends" | "work"), desk] => workers::answer(rt, alloc, call, desk),
+        [call @ ("ends" | "busy" | "work"), desk] => workers::answer(rt, alloc, call, desk),
         ["reads", bytes] => workers::reads(rt, alloc, bytes),
         ["serve", desks @ ..] => servers::answer(rt, alloc, desks),
         ["calls", asks @ ..] => one_pass::answer(rt, alloc, asks),

@@ -4,13 +4,13 @@ use crate::tally::Tally;
 use crate::tick::Tick;
 use http_reply::plain;
 use serving::Role;
-use sso_base::{Answered, Ask, HttpReply, Message, Messages, NoMemory, Text};
+use sso_base::{Answered, Ask, HttpReply, Message, Messages, Method, NoMemory, Text};
 use std::alloc::Global;
 
 /// The extra weight of each request: two such requests exceed the limit of a history.
 const HEAVY: u32 = 200_000_000;
 
-/// Whatever the HTTP request is, the core receives one more request, and replies with one line.
+/// Whatever the HTTP request is, the core receives one more request, and replies with one line. Each POST proves a password.
 #[derive(Drop)]
 pub struct TallyRole;
 
@@ -35,6 +35,13 @@ impl Role for TallyRole {
         Ok(Tick { more: HEAVY })
     }
 
+    fn proves(&self, request: &Ask) -> bool {
+        match request.method {
+            Method::Post => true,
+            _ => false,
+        }
+    }
+
     fn question(&self, _alloc: Global, _reply: &u64) -> Result<Option<Message>, NoMemory> {
         Ok(None)
     }
@@ -46,6 +53,10 @@ impl Role for TallyRole {
         _answer: &Answered,
     ) -> Result<Tick, NoMemory> {
         Ok(Tick { more: HEAVY })
+    }
+
+    fn workers(&self) -> u32 {
+        64
     }
 
     fn takes(&self, _ask: &Tick) -> bool {

@@ -9,6 +9,7 @@ use std::alloc::{AllocGlobal, Global};
 use std::io::{Read, Write};
 use std::net::{Net, TcpListener, TcpStream};
 use std::random::RandomSource;
+use std::rt::Files;
 use std::sync::Wait;
 use std::thread::{Threads, join, sleep};
 use std::time::{Clock, Duration};
@@ -32,7 +33,7 @@ fn free_place<N: Net<Listener = TcpListener, Stream = TcpStream>>(
 fn run_provider<R>(rt: &R, alloc: Global, place: &str) -> Result<String, NoMemory>
 where
     R: Threads + Wait + Net<Listener = TcpListener, Stream = TcpStream>,
-    R: Clock + RandomSource + Sync + AllocGlobal,
+    R: Clock + RandomSource + Files + Sync + AllocGlobal,
 {
     let config = format!(in alloc;
         "version = 1\n[provider]\nissuer = \"http://{place}\"\nlisten = \"{place}\"\nsalt = \"00112233445566778899aabbccddeeff\"\n"
@@ -81,7 +82,7 @@ fn ask_keys<R: Net<Stream = TcpStream> + Clock>(
 pub fn answer<R>(rt: &R, alloc: Global) -> Result<String, NoMemory>
 where
     R: Threads + Wait + Net<Listener = TcpListener, Stream = TcpStream>,
-    R: Clock + RandomSource + Sync + AllocGlobal,
+    R: Clock + RandomSource + Files + Sync + AllocGlobal,
 {
     let Some(place) = free_place(rt, alloc)? else {
         return told(alloc, "no port is free");

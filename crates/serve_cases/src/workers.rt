@@ -14,6 +14,7 @@ use sso_base::{Core, NoMemory};
 use std::alloc::Global;
 use std::sync::Wait;
 use turn_store::{Pass, Turn};
+use work_permits::Gate;
 
 // Serves the next connection of the door, and adds how that ended, the number of steps, and the bytes that were written. False
 // if none came.
@@ -22,6 +23,7 @@ fn push_end<R: Wait, X: Role>(
     alloc: Global,
     role: &X,
     store: &Turn<X::Core>,
+    gate: &Gate,
     pass: &mut Pass<X::Core>,
     desk: &mut CaseDesk,
     out: &mut String,
@@ -38,6 +40,7 @@ fn push_end<R: Wait, X: Role>(
         alloc,
         role,
         store,
+        gate,
     };
     let served = serve_connection(&backend, pass, &mut connection, &mut desk.tools);
     if served.end == ServedEnd::NoMemory {
@@ -55,6 +58,7 @@ fn ends<R: Wait, X: Role>(
     alloc: Global,
     role: &X,
     store: &Turn<X::Core>,
+    gate: &Gate,
     pass: &mut Pass<X::Core>,
     desk: &mut CaseDesk,
 ) -> Result<String, NoMemory>
@@ -63,7 +67,7 @@ fn ends<R: Wait, X: Role>(
 {
     let mut out = String::new(alloc);
     for _ in 0..desk.turns {
-        if !push_end(rt, alloc, role, store, pass, desk, &mut out)? {
+        if !push_end(rt, alloc, role, store, gate, pass, desk, &mut out)? {
             break;
         }
     }
@@ -77,6 +81,7 @@ fn work<R: Wait, X: Role>(
     alloc: Global,
     role: &X,
     store: &Turn<X::Core>,
+    gate: &Gate,
     pass: &mut Pass<X::Core>,
     desk: &mut CaseDesk,
 ) -> Result<String, NoMemory>
@@ -90,12 +95,34 @@ fn work<R: Wait, X: Role>(
         alloc,
         role,
         store,
+        gate,
     };
     let worked = serve_desk(&backend, pass, desk);
     Ok(format!(in alloc; "{:?} {}", worked.end, worked.served)?)
 }
 
-// The answer of the call `ends` or `work` for a role whose core is new.
+// How each connection was served while another worker was behind the gate.
+fn ends_while_busy<R: Wait, X: Role>(
+    rt: &R,
+    alloc: Global,
+    role: &X,
+    store: &Turn<X::Core>,
+    gate: &Gate,
+    pass: &mut Pass<X::Core>,
+    desk: &mut CaseDesk,
+) -> Result<String, NoMemory>
+    requires ready { X.ready role.now }
+    requires pass { IsPassOf X.Core.setup X.Core.is_legal store.now pass.old }
+{
+    let Ok(entered) = gate.enter(rt) else {
+        return told(alloc, "busy before");
+    };
+    let ends = ends(rt, alloc, role, store, gate, pass, desk);
+    gate.leave(entered);
+    ends
+}
+
+// The answer of the call `ends`, `busy` or `work` for a role whose core is new.
 fn at_desk<R: Wait, X: Role>(
     rt: &R,
     alloc: Global,
@@ -111,14 +138,15 @@ fn at_desk<R: Wait, X: Role>(
 {
     let (store, mut passes) = Turn::new(alloc, core, 1)?;
     let mut pass = take_pass(&store, &mut passes);
-    if call == "work" {
-        work(rt, alloc, role, &store, &mut pass, desk)
-    } else {
-        ends(rt, alloc, role, &store, &mut pass, desk)
+    let gate = Gate::new(alloc, 1)?;
+    match call {
+        "work" => work(rt, alloc, role, &store, &gate, &mut pass, desk),
+        "busy" => ends_while_busy(rt, alloc, role, &store, &gate, &mut pass, desk),
+        _ => ends(rt, alloc, role, &store, &gate, &mut pass, desk),
     }
 }
 
-/// `ends|DESK` or `work|DESK`.
+/// `ends|DESK`, `busy|DESK` or `work|DESK`.
 pub fn answer<R: Wait>(rt: &R, alloc: Global, call: &str, text: &str) -> Result<String, NoMemory> {
     let mut desk = desk_in(alloc, text, 0)?;
     let core = Tally::new(alloc, false);

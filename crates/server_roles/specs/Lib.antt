@@ -1,3 +1,4 @@
 pub mod Ends
 pub mod Roles
 pub mod Rounds
+pub mod ReadBack

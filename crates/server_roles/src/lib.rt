@@ -8,15 +8,18 @@
 //! |---|---|
 //! | `op_role`, `rp_role` | [`OpRole`] and [`RpRole`], the roles |
 //! | `op`, `rp` | [`serve_op`] and [`serve_rp`], the servers |
+//! | `law` | [`cookies_are_read_as_they_were_set`] |
 //! | `ran` | [`run_provider`] and [`run_party`], the same without their cores, and [`Ran`], their result |
 #![tactic(auto)]
 
+mod law;
 mod op;
 mod op_role;
 mod ran;
 mod rp;
 mod rp_role;
 
+pub use law::cookies_are_read_as_they_were_set;
 pub use op::serve_op;
 pub use op_role::OpRole;
 pub use ran::{Ran, run_party, run_provider};

@@ -2,21 +2,17 @@
 
 ghost use Rattle.std.specs.Prelude.{◌≡◌};
 ghost use Rattle.std.specs.Option.{option_copied};
-ghost use Rattle.server_roles.specs.Roles.{is_small_if};
+ghost use Rattle.server_roles.specs.Roles.{is_small_if, provider_workers};
 
 use client_registry::Registry;
 use core_stack::Provides;
 use op_exchange::{OpAsk, is_small};
+use op_request::is_login;
+use op_response::{browser_cookie, session_cookie};
 use serving::Role;
 use sso_base::{Answered, Ask, HttpReply, Message, Messages, NoMemory, Text};
 use std::alloc::Global;
 use std::marker::PhantomData;
-
-/// The name of the browser's cookie.
-const BROWSER: &str = "op_b";
-
-/// The name of the session's cookie.
-const SESSION: &str = "op_s";
 
 /// The role of the provider's server: a core of this type, which the provider of this registry is in.
 #[derive(Drop)]
@@ -35,6 +31,13 @@ fn is_small_if(ask: Option<&OpAsk>) -> bool
     }
 }
 
+// How many workers serve the provider of a registry.
+fn provider_workers(_registry: &Registry) -> u32
+    ensures { result ≡ provider_workers _registry.now }
+{
+    4
+}
+
 impl<'a, P: Provides + Send + Sync> Role for OpRole<'a, P> {
     ghost use Rattle.std.specs.Prelude.{refl};
     ghost use Rattle.server_roles.specs.Roles.{provider_manner};
@@ -49,11 +52,18 @@ impl<'a, P: Provides + Send + Sync> Role for OpRole<'a, P> {
     ghost rounds = { λ _. 0 };
 
     fn cookies(&self, alloc: Global) -> Result<(Text, Text), NoMemory> {
-        Ok((Text::new(alloc, BROWSER)?, Text::new(alloc, SESSION)?))
+        Ok((
+            browser_cookie(alloc, self.registry)?,
+            session_cookie(alloc, self.registry)?,
+        ))
     }
 
     fn prepare(&self, alloc: Global, request: &Ask) -> Result<P::Ask, NoMemory> {
         P::prepare(alloc, self.registry, request)
+    }
+
+    fn proves(&self, request: &Ask) -> bool {
+        is_login(self.registry, request)
     }
 
     fn question(&self, _alloc: Global, _reply: &P::Reply) -> Result<Option<Message>, NoMemory> {
@@ -67,6 +77,10 @@ impl<'a, P: Provides + Send + Sync> Role for OpRole<'a, P> {
         _answer: &Answered,
     ) -> Result<P::Ask, NoMemory> {
         P::from_plain(alloc, OpAsk::NotHere)
+    }
+
+    fn workers(&self) -> u32 {
+        provider_workers(self.registry)
     }
 
     fn takes(&self, ask: &P::Ask) -> bool {

@@ -1,9 +1,12 @@
 // A core that a relying party is in, as a role.
 
+ghost use Rattle.std.specs.Prelude.{◌≡◌, ◌<◌, length};
+ghost use Rattle.server_roles.specs.Roles.{party_workers};
+
 use client_registry::Registry;
 use core_stack::{Relies, Sending};
-use http_reply::concatenated;
 use rp_exchange::{RpAsk, RpReply, is_small};
+use rp_response::{browser_cookie, session_cookie};
 use serving::Role;
 use sso_base::{Answered, Ask, HttpReply, Message, Messages, NoMemory, Text};
 use std::alloc::Global;
@@ -15,6 +18,14 @@ pub struct RpRole<'a, P> {
     pub registry: &'a Registry,
     pub party: u32,
     pub core: PhantomData<P>,
+}
+
+// How many workers serve the party with this number in a registry.
+fn party_workers(_registry: &Registry, _party: u32) -> u32
+    requires { _party < length _registry.now.parties }
+    ensures { result ≡ party_workers _registry.now _party }
+{
+    4
 }
 
 impl<'a, P: Relies + Send + Sync> Role for RpRole<'a, P> {
@@ -35,15 +46,18 @@ impl<'a, P: Relies + Send + Sync> Role for RpRole<'a, P> {
     ghost rounds = { λ reply. rounds_of (P.rp_reply reply) };
 
     fn cookies(&self, alloc: Global) -> Result<(Text, Text), NoMemory> {
-        let name = self.registry.party(self.party).name.as_str();
         Ok((
-            concatenated(alloc, name, "_b")?,
-            concatenated(alloc, name, "_s")?,
+            browser_cookie(alloc, self.registry, self.party)?,
+            session_cookie(alloc, self.registry, self.party)?,
         ))
     }
 
     fn prepare(&self, alloc: Global, request: &Ask) -> Result<P::Ask, NoMemory> {
         P::prepare(alloc, self.registry, self.party, request)
+    }
+
+    fn proves(&self, _request: &Ask) -> bool {
+        false
     }
 
     fn question(&self, alloc: Global, reply: &P::Reply) -> Result<Option<Message>, NoMemory> {
@@ -66,6 +80,10 @@ impl<'a, P: Relies + Send + Sync> Role for RpRole<'a, P> {
             RpReply::Fetch { pending, .. } => P::prepare_info(alloc, *pending, answer),
             _ => P::from_plain(alloc, RpAsk::NotHere),
         }
+    }
+
+    fn workers(&self) -> u32 {
+        party_workers(self.registry, self.party)
     }
 
     fn takes(&self, ask: &P::Ask) -> bool {

@@ -10,7 +10,7 @@ use Rattle.server_desk.specs.Links.{LinkState}
 use Rattle.sso_http.specs.declared.no.HttpNo.{HttpNo}
 use Rattle.sso_http.specs.Peers.{IsAnswer, IsNoAnswer}
 use Rattle.serving.specs.declared.no_reply.NoReply.{NoReply}
-use Rattle.serving.specs.declared.no_reply.NoReply.TheVariants.{NoMemory, Http, Link, Peer, TooLarge, Full}
+use Rattle.serving.specs.declared.no_reply.NoReply.TheVariants.{NoMemory, Http, Link, Peer, TooLarge, Busy, Full}
 use Rattle.serving.specs.LinkCalls.{LinkCall, TookCalls}
 use Rattle.serving.specs.Manner.{Manner}
 use Rattle.serving.specs.Steps.{Stepped, pair_from, history_after, IsFull, IsNoStep}
@@ -41,6 +41,11 @@ never_too_large : (given : Result (List ℕ) LinkNo) → IsPeerAnswer given (Err
 never_too_large (Ok bytes) is = is
 never_too_large (Err link_no.Failed) is = is
 never_too_large (Err link_no.NoMemory) is = is
+
+never_busy : (given : Result (List ℕ) LinkNo) → IsPeerAnswer given (Err Busy) → ⊥
+never_busy (Ok bytes) is = is
+never_busy (Err link_no.Failed) is = is
+never_busy (Err link_no.NoMemory) is = is
 
 never_full : (given : Result (List ℕ) LinkNo) → IsPeerAnswer given (Err Full) → ⊥
 never_full (Ok bytes) is = is
@@ -88,6 +93,8 @@ module _ {A R : Type 0} (m : Manner A R) where
   unanswered before after reply question Peer puts (inr none) = absurd (cc none.1)
   unanswered before after reply question TooLarge puts (inl call) = absurd (never_too_large call.0.answer call.3)
   unanswered before after reply question TooLarge puts (inr none) = absurd (cc none.1)
+  unanswered before after reply question Busy puts (inl call) = absurd (never_busy call.0.answer call.3)
+  unanswered before after reply question Busy puts (inr none) = absurd (cc none.1)
   unanswered before after reply question Full puts (inl call) = absurd (never_full call.0.answer call.3)
   unanswered before after reply question Full puts (inr none) = absurd (cc none.1)
 
@@ -103,6 +110,7 @@ module _ {A R : Type 0} (m : Manner A R) where
   round_unanswered most history reply calls Link is = is
   round_unanswered most history reply calls Peer is = is
   round_unanswered most history reply calls TooLarge is = is
+  round_unanswered most history reply calls Busy is = absurd is
   round_unanswered most history reply calls Full is = absurd is
 
   -- the weights are the core's
@@ -117,6 +125,7 @@ module _ {A R : Type 0} (m : Manner A R) where
   round_refused weighs most history reply calls asked Link same is full = absurd full
   round_refused weighs most history reply calls asked Peer same is full = absurd full
   round_refused weighs most history reply calls asked TooLarge same is full = absurd full
+  round_refused weighs most history reply calls asked Busy same is full = absurd full
   round_refused weighs most history reply calls asked Full same is full = (is.0, asked, is.1, is.2, is.3, full_by weighs most history asked same full)
 
   some_not_none : (o : Option Message) (x : Message) → o ≡ Some x → o ≢ None
@@ -149,6 +158,7 @@ module _ {A R : Type 0} (m : Manner A R) where
   cause_unread most left left' before now history Link is = absurd is
   cause_unread most left left' before now history Peer is = absurd is
   cause_unread most left left' before now history TooLarge is = (refl, is)
+  cause_unread most left left' before now history Busy is = (refl, refl, is)
   cause_unread most left left' before now history Full is = absurd is
 
   -- the first step was refused
@@ -159,6 +169,7 @@ module _ {A R : Type 0} (m : Manner A R) where
   cause_refused weighs most left left' before now history asked Link same is full = absurd full
   cause_refused weighs most left left' before now history asked Peer same is full = absurd full
   cause_refused weighs most left left' before now history asked TooLarge same is full = absurd full
+  cause_refused weighs most left left' before now history asked Busy same is full = absurd full
   cause_refused weighs most left left' before now history asked Full same is full = record {
     before = history;
     asked = asked;

@@ -9,7 +9,7 @@ use Rattle.turn_store.specs.Passes.{front_of, calls_of}
 use Rattle.turn_store.proofs.Totals.{begins_on}
 use Rattle.serving.specs.declared.ends.Served.{Served}
 use Rattle.serving.specs.declared.no_reply.NoReply.{NoReply}
-use Rattle.serving.specs.declared.no_reply.NoReply.TheVariants.{NoMemory, Http, Link, Peer, TooLarge, Full}
+use Rattle.serving.specs.declared.no_reply.NoReply.TheVariants.{NoMemory, Http, Link, Peer, TooLarge, Busy, Full}
 use Rattle.serving.specs.LinkCalls.{LinkCall}
 use Rattle.serving.specs.Manner.{Manner}
 use Rattle.serving.specs.Serving.{Cause, Serves}
@@ -49,6 +49,7 @@ module _ {A R : Type 0} where
     cause_on left left' before now h k b steps calls (Err Link) c = c
     cause_on left left' before now h k b steps calls (Err Peer) c = c
     cause_on left left' before now h k b steps calls (Err TooLarge) c = c
+    cause_on left left' before now h k b steps calls (Err Busy) c = c
     cause_on left left' before now h k b steps calls (Err Full) c = record { before = c.before; asked = c.asked; next = c.next; seen = begins_on c.before h k c.seen b; full = c.full }
 
     pub serves_on : {S K : Type 0} (left : S → Option (List ℕ)) (read_faults : S → ℕ) (taken : K → Option (List ℕ)) (write_faults : K → ℕ)

@@ -14,5 +14,6 @@ pub mod Dealing
 pub mod Sharing
 pub mod Seatings
 pub mod Summing
+pub mod Firsts
 mod Samples
 mod ServerSamples

@@ -8,7 +8,7 @@ use Rattle.serving.specs.declared.ends.Served as ends
 use Rattle.serving.specs.declared.ends.ServedEnd.{ServedEnd}
 use Rattle.serving.specs.declared.ends.ServedEnd.TheVariants as end
 use Rattle.serving.specs.declared.no_reply.NoReply.{NoReply}
-use Rattle.serving.specs.declared.no_reply.NoReply.TheVariants.{NoMemory, Http, Link, Peer, TooLarge, Full}
+use Rattle.serving.specs.declared.no_reply.NoReply.TheVariants.{NoMemory, Http, Link, Peer, TooLarge, Busy, Full}
 use Rattle.serving.specs.LinkCalls.{LinkCall, failures, TookCalls}
 use Rattle.serving.specs.Manner.{Manner, bytes_by}
 use Rattle.serving.specs.Serving.{Cause, Serves}
@@ -37,6 +37,7 @@ module _ {A R : Type 0} (m : Manner A R) (most : ℕ) where
   failed_cause left left' before now history steps questions notices (Err Link) cause e = failed_last cause.1.0 questions notices cause.0 cause.1.1 cause.2
   failed_cause left left' before now history steps questions notices (Err Peer) cause e = absurd (cc e)
   failed_cause left left' before now history steps questions notices (Err TooLarge) cause e = absurd (cc e)
+  failed_cause left left' before now history steps questions notices (Err Busy) cause e = absurd (cc e)
   failed_cause left left' before now history steps questions notices (Err Full) cause e = absurd (cc e)
 
   module _ {S K : Type 0} (left : S → Option (List ℕ)) (read_faults : S → ℕ) (taken : K → Option (List ℕ)) (write_faults : K → ℕ) where

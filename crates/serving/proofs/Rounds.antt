@@ -3,7 +3,7 @@ use Rattle.std.proofs.Common.{◌≡◌, ◌≢◌, inl, inr, ℕ, suc, ◌<◌,
 use Rattle.std.proofs.lemmas.List.{append-nil}
 use Rattle.sso_base.specs.declared.history.Pair.{Pair}
 use Rattle.serving.specs.declared.no_reply.NoReply.{NoReply}
-use Rattle.serving.specs.declared.no_reply.NoReply.TheVariants.{NoMemory, Http, Link, Peer, TooLarge, Full}
+use Rattle.serving.specs.declared.no_reply.NoReply.TheVariants.{NoMemory, Http, Link, Peer, TooLarge, Busy, Full}
 use Rattle.serving.specs.LinkCalls.{LinkCall}
 use Rattle.serving.specs.Manner.{Manner}
 use Rattle.serving.specs.Steps.{Stepped}
@@ -26,6 +26,7 @@ module _ {A R : Type 0} (m : Manner A R) (most : ℕ) where
   failed history reply calls Link f = subst (λ (cs : List LinkCall). Rest m most history reply [] cs (Err Link)) (sym f.1) (f.2, (f.0, ([], refl, refl), f.3))
   failed history reply calls Peer f = subst (λ (cs : List LinkCall). Rest m most history reply [] cs (Err Peer)) (sym f.2) (f.3, (f.0, f.1, ([], refl, refl), f.4, f.5))
   failed history reply calls TooLarge f = subst (λ (cs : List LinkCall). Rest m most history reply [] cs (Err TooLarge)) (sym f.1) (f.2, f.3)
+  failed history reply calls Busy f = absurd f
   failed history reply calls Full f = subst (λ (cs : List LinkCall). Rest m most history reply [] cs (Err Full)) (sym f.2) (f.3, (f.1, (f.3, f.4), f.5))
 
   pub failed_round : (rounds : R → ℕ) (history : List (Pair A R)) (reply : R) (w : Work A R) (why : NoReply) → Round m most rounds history reply w (Err why) → Rest m most history reply w.steps w.calls (Err why)
@@ -53,6 +54,7 @@ module _ {A R : Type 0} (m : Manner A R) (most : ℕ) where
     (end.0, end.1, (call ∷ end.2.0, ap (λ (l : List LinkCall). call ∷ l) end.2.1, ap suc end.2.2), end.3, end.4),
   )
   after_step history reply s call steps calls (Err TooLarge) asks back (goes, end) = ((asks, back, goes), end)
+  after_step history reply s call steps calls (Err Busy) asks back (goes, end) = absurd end
   after_step history reply s call steps calls (Err Full) asks back (goes, end) = ((asks, back, goes), (end.0, (asks, back, end.1), end.2))
 
   -- a round that is the last
@@ -118,6 +120,7 @@ module _ {A R : Type 0} (m : Manner A R) (most : ℕ) where
   cause_after left left' before now history s steps calls (Err Link) asked end = (end.0, (end.1.0, end.1.1, sym end.1.2), end.2)
   cause_after left left' before now history s steps calls (Err Peer) asked end = (end.0, end.1, (end.2.0, end.2.1, sym end.2.2), end.3, end.4)
   cause_after left left' before now history s steps calls (Err TooLarge) asked end = end
+  cause_after left left' before now history s steps calls (Err Busy) asked end = absurd end
   cause_after left left' before now history s steps calls (Err Full) asked end = record { before = history; asked = end.0; next = (asked, end.1); seen = ([], sym (append-nil history)); full = end.2 }
 
   pub is_cause : (left left' : Option (List ℕ)) (before now : ℕ) (history : List (Pair A R)) (s : Stepped A R) (reply : R) (steps : List (Stepped A R)) (calls : List LinkCall) (result : Result R NoReply)

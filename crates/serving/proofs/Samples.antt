@@ -1,6 +1,6 @@
 -- The definitions computed on small cases: what each accepts, and what it refuses. Requests and replies are numbers. A request
 -- is parsed as the length of its path, and the answer to a question as its status.
-use Rattle.std.proofs.Common.{◌≡◌, ◌≢◌, inl, inr, ℕ, zero, suc, ◌+◌, ◌*◌, ◌<◌, ◌≤◌, nat_le, List, [], ◌∷◌, length, codes, Option, Some, None, Result, Ok, Err, refl, ap, arith}
+use Rattle.std.proofs.Common.{◌≡◌, ◌≢◌, inl, inr, ℕ, zero, suc, ◌+◌, ◌*◌, ◌<◌, ◌≤◌, nat_le, true, false, List, [], ◌∷◌, length, codes, Option, Some, None, Result, Ok, Err, refl, ap, arith}
 use Rattle.std.specs.Fmt.{digits}
 use Rattle.http_reply.specs.Replies.{plain}
 use Rattle.sso_base.specs.Outside.{SinkMemory}
@@ -26,7 +26,7 @@ use Rattle.turn_store.specs.declared.store.Pass.{Pass}
 use Rattle.turn_store.specs.declared.view.Called.{Called}
 use Rattle.serving.specs.declared.ends.ServedEnd.TheVariants as end
 use Rattle.serving.specs.declared.no_reply.NoReply.{NoReply}
-use Rattle.serving.specs.declared.no_reply.NoReply.TheVariants.{NoMemory, Http, Link, Peer, TooLarge, Full}
+use Rattle.serving.specs.declared.no_reply.NoReply.TheVariants.{NoMemory, Http, Link, Peer, TooLarge, Busy, Full}
 use Rattle.serving.specs.LinkCalls.{LinkCall, sending_of, after_calls, grown_by, failures as failed_calls, TookCalls}
 use Rattle.serving.specs.Manner.{Manner, bytes_by}
 use Rattle.serving.specs.Serving.{IsPeerAnswer, IsAsked, IsUnasked, Asks, IsAskedBack, IsRun, IsLastReply, LeadsTo, LeadsToTooLarge, IsStopped, Cause, Serves}
@@ -71,13 +71,19 @@ manner = record {
   first = codes "op_b";
   second = codes "op_s";
   prepared = λ (request : Ask). length request.path;
+  proves = λ (request : Ask). false;
   question = question_of;
   answered = λ (reply : ℕ) (answer : Answered). answer.status;
   notices = notices_after;
   http = λ (reply : ℕ). plain 200 (reply ∷ []);
   takes = λ (ask : ℕ). nat_le ask 200;
   weighs = λ (ask : ℕ). ask;
+  workers = 2;
 }
+
+-- each request proves a password
+abbrev pub proving : Manner ℕ ℕ
+proving = record manner { proves = λ (request : Ask). true }
 
 -- the greatest weight of a history
 abbrev pub limit : ℕ
@@ -91,6 +97,10 @@ ends-written = refl
 told-that_the_journal_is_full : bytes_without Full ≡ Some (codes "HTTP/1.1 503 Service Unavailable\r\nCache-Control: no-store\r\nContent-Type: text/plain; charset=utf-8\r\nContent-Length: 8\r\nConnection: close\r\n\r\njournal\n")
 unfolding bytes_without reply_bytes status_line reason no_store field last_lines digits
 told-that_the_journal_is_full = refl
+
+told-to_come_again : bytes_without Busy ≡ Some (codes "HTTP/1.1 503 Service Unavailable\r\nRetry-After: 1\r\nCache-Control: no-store\r\nContent-Type: text/plain; charset=utf-8\r\nContent-Length: 5\r\nConnection: close\r\n\r\nbusy\n")
+unfolding bytes_without busy_bytes
+told-to_come_again = refl
 
 told-nothing_where_nobody_reads : bytes_without (Http http_no.EndedEarly) ≡ None
 unfolding bytes_without refusal_bytes
@@ -253,6 +263,12 @@ module _ (any : Pass History ℕ ℕ) where
 asked-the_length_of_its_path : IsAsked manner (Some get_text) (Some []) 1
 asked-the_length_of_its_path = ((_, record { head = get_text; body = []; given = refl; request = a_request }, refl), refl)
 
+busy-at_a_password : Cause proving limit (Some get_text) (Some []) 0 0 [] [] [] (Err Busy)
+busy-at_a_password = (refl, refl, (_, record { head = get_text; body = []; given = refl; request = a_request }, refl))
+
+not_busy-without_a_password : Cause manner limit (Some get_text) (Some []) 0 0 [] [] [] (Err Busy) → ⊥
+not_busy-without_a_password cause = let e : false ≡ true = cause.2.2 in absurd (cc e)
+
 unasked-three_bytes : IsUnasked manner (Some (codes "GET")) (Some []) 0 0 http_no.EndedEarly
 unasked-three_bytes = record {
   refused = record { bytes = codes "GET"; given = refl; cause = (refl, inl (omega arith, unended (codes "GET") refl)) };
@@ -367,4 +383,5 @@ no_refusal_after_a_step (Err (Http why)) cause e = let none : lone ∷ [] ≡ []
 no_refusal_after_a_step (Err Link) cause e = absurd cc
 no_refusal_after_a_step (Err Peer) cause e = absurd cc
 no_refusal_after_a_step (Err TooLarge) cause e = absurd cc
+no_refusal_after_a_step (Err Busy) cause e = absurd cc
 no_refusal_after_a_step (Err Full) cause e = absurd cc

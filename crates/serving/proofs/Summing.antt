@@ -14,7 +14,7 @@ use Rattle.turn_store.specs.Passes.{number_of, front_of, calls_of, HasDoneNothin
 use Rattle.turn_store.proofs.Ending.{all_by, by_all}
 use Rattle.serving.specs.declared.seats.Seat.{Seat}
 use Rattle.serving.specs.Manner.{Manner}
-use Rattle.serving.specs.Summaries.{Telling, Unopened, DesksServed, AllServed, SomeFailed, AllEndedWell, Summarises, places_in}
+use Rattle.serving.specs.Summaries.{Telling, Unopened, DesksServed, AllServed, SomeFailed, AllEndedWell, SummarisesDesks, places_in}
 use Rattle.serving.specs.Seating.{new_seat, seated, is_left, OpenedSo, AllOpened, Opened, SeatServed, SeatsServed, OpenedAndServed}
 use Rattle.serving.specs.Working.{Service}
 use Rattle.serving.proofs.Seatings.{rose_after, placed, OpenedAs, opened_as, left_as, Ready, ready_on, unlike, desk_served, seat_failed, seat_well, seat_calls, seat_number, seat_bound}
@@ -356,7 +356,7 @@ module _ {O A R D L C W S K : Type 0} (t : Telling D L C W S K) where
             → closed.calls ≡ map (λ (p : Pass O A R). places_of (calls_of p)) passes
             → IsEachOnce (length (history_of closed.core)) closed.calls
             → entries ≡ length (history_of closed.core)
-            → Summarises t m limit setup history_of is_legal configured place ds desks (record { served = served; entries = entries; fault = fault; closed = Some closed })
+            → SummarisesDesks t m limit setup history_of is_legal configured place ds desks (record { served = served; entries = entries; fault = fault; closed = Some closed })
         summarised seats desks passes closed served entries fault limited fresh back desks_given passes_given sum_given fault_given set_up legal fronts calls once length_is =
             let desks_are : desks ≡ desks_of news = desks_given ∙ ap (λ (l : List (Seat O D L C W A R)). desks_of l) back in
             let passes_are : passes ≡ passes_in news = passes_given ∙ ap (λ (l : List (Seat O D L C W A R)). passes_in l) back in

@@ -10,17 +10,20 @@ use Rattle.sso_http.specs.Replies.{reply_bytes}
 
 -- The names of its two cookies, and how a request is parsed. A reply may make a request to another server; then the core steps
 -- again with that server's answer. Otherwise the reply is sent by HTTP, after its notices. Notices are messages whose answers
--- are ignored. A parsed request that the server does not take is too large; the core does not get it.
+-- are ignored. A parsed request that the server does not take is too large; the core does not get it. A request that proves a password
+-- costs much to parse: the server may turn it away. It has this many workers, or fewer where it has fewer desks.
 pub record Manner (A R : Type 0) : Type 0 where
   pub first : Text
   pub second : Text
   pub prepared : Ask → A
+  pub proves : Ask → Bool
   pub question : R → Option Message
   pub answered : R → Answered → A
   pub notices : R → List Message
   pub http : R → HttpReply
   pub takes : A → Bool
   pub weighs : A → ℕ
+  pub workers : ℕ
 
 -- the bytes of a reply
 abbrev pub bytes_by : {A R : Type 0} → Manner A R → R → List ℕ

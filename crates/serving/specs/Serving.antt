@@ -19,7 +19,7 @@ use Rattle.sso_http.specs.declared.no.HttpNo.TheVariants as http_no
 use Rattle.serving.specs.declared.ends.Served.{Served}
 use Rattle.serving.specs.declared.ends.ServedEnd.{ServedEnd}
 use Rattle.serving.specs.declared.no_reply.NoReply.{NoReply}
-use Rattle.serving.specs.declared.no_reply.NoReply.TheVariants.{NoMemory, Http, Link, Peer, TooLarge, Full}
+use Rattle.serving.specs.declared.no_reply.NoReply.TheVariants.{NoMemory, Http, Link, Peer, TooLarge, Busy, Full}
 use Rattle.serving.specs.LinkCalls.{LinkCall, sending_of, sent_by, TookCalls}
 use Rattle.serving.specs.Manner.{Manner, bytes_by}
 use Rattle.serving.specs.Steps.{Stepped, IsFull}
@@ -54,17 +54,22 @@ module _ {A R : Type 0} (m : Manner A R) where
   abbrev pub IsTooLarge : Option (List ℕ) → Option (List ℕ) → Type 0
   IsTooLarge left left' = (asked : A) × IsPrepared left left' asked × (m.takes asked ≡ false)
 
+  -- a request was read that proves a password, and was turned away
+  abbrev pub IsTurnedAway : Option (List ℕ) → Option (List ℕ) → Type 0
+  IsTurnedAway left left' = (request : Ask) × IsAskRead m.first m.second left left' request × (m.proves request ≡ true)
+
   -- no request was read: it was refused, or the source failed, and then its fault count rose
   pub record IsUnasked (left left' : Option (List ℕ)) (before now : ℕ) (why : HttpNo) : Type 0 where
     pub refused : IsRefused m.first m.second left left' why
     pub other : why ≢ http_no.NoMemory
     pub failed : why ≡ http_no.ReadFault → Rose before now
 
-  -- why there is no request: that, or it is too large, or memory ran out
+  -- why there is no parsed request: that, or it is too large, or it was turned away, or memory ran out
   abbrev pub IsUnread : Option (List ℕ) → Option (List ℕ) → ℕ → ℕ → NoReply → Type 0
   IsUnread left left' before now NoMemory = Unit {0}
   IsUnread left left' before now (Http why) = IsUnasked left left' before now why
   IsUnread left left' before now TooLarge = IsTooLarge left left'
+  IsUnread left left' before now Busy = IsTurnedAway left left'
   IsUnread left left' before now why = ⊥
 
   -- the link was called with this question
@@ -178,6 +183,7 @@ module _ {A R : Type 0} (m : Manner A R) where
     Cause left left' before now history steps calls (Err Peer) =
         (call : LinkCall) × (bytes : List ℕ) × IsLastCall steps calls call × (call.answer ≡ Ok bytes) × IsNoAnswer bytes
     Cause left left' before now history steps calls (Err TooLarge) = EndsTooLarge left left' steps calls
+    Cause left left' before now history steps calls (Err Busy) = (steps ≡ []) × (calls ≡ []) × IsTurnedAway left left'
     Cause left left' before now history steps calls (Err Full) = IsStopped left left' history steps calls
 
     -- why a round made no step

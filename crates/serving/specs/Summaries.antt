@@ -1,5 +1,5 @@
 -- What a server did: each desk served its connections, and all their steps are the history of one core.
-use Rattle.std.specs.Prelude.{◌≡◌, ◌⊎◌, ℕ, ◌+◌, ◌<◌, Bool, true, false, List, [], ◌∷◌, map, length, Option, Some, None, option_map}
+use Rattle.std.specs.Prelude.{◌≡◌, ◌⊎◌, ℕ, zero, suc, ◌+◌, ◌<◌, Bool, true, false, List, [], ◌∷◌, map, length, Option, Some, None, option_map}
 use Rattle.std.specs.List.{sum_by}
 use Rattle.sso_base.specs.Faults.{Rose}
 use Rattle.sso_base.specs.Words.{Text, Word}
@@ -113,8 +113,8 @@ pub record ClosedSo
   pub number : served ≡ sum_by length works
   pub length_is : entries ≡ length (history_of closed.core)
 
--- What a server with these desks did. Without a desk it did nothing.
-pub record Summarises
+-- What a server did that has a worker at each of these desks. Without a desk it did nothing.
+pub record SummarisesDesks
     {D L C W S K A R Core Setup : Type 0} (t : Telling D L C W S K) (m : Manner A R) (most : Setup → ℕ) (setup : Core → Setup)
     (history_of : Core → List (Pair A R)) (is_legal : Setup → List (Pair A R) → Type 0) (configured : Setup) (place : Text)
     (olds news : List (Desk D L C W)) (s : Summary Core A R) : Type 0 where
@@ -124,3 +124,16 @@ pub record Summarises
       × ClosedSo t m most setup history_of is_legal configured place olds news closed s.served s.entries
   pub failed : s.fault ≡ true → SomeFailed t olds news
   pub well : s.fault ≡ false → AllEndedWell t olds news
+
+-- the first desks, at most so many
+abbrev pub first_of : {X : Type 0} → ℕ → List X → List X
+first_of n [] = []
+first_of zero (desk ∷ desks) = []
+first_of (suc n) (desk ∷ desks) = desk ∷ first_of n desks
+
+-- What a server with these desks did. It has a worker at each of the first of them, as many as it may have. The others were dropped.
+abbrev pub Summarises : {D L C W S K A R Core Setup : Type 0} → Telling D L C W S K → Manner A R → (Setup → ℕ) → (Core → Setup)
+    → (Core → List (Pair A R)) → (Setup → List (Pair A R) → Type 0) → Setup → Text → List (Desk D L C W) → List (Desk D L C W)
+    → Summary Core A R → Type 0
+Summarises t m most setup history_of is_legal configured place olds news s =
+    SummarisesDesks t m most setup history_of is_legal configured place (first_of m.workers olds) news s

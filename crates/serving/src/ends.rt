@@ -16,6 +16,8 @@ pub enum ServedEnd {
     Peer,
     /// The request, or the answer of another server, is larger than the server takes. A reply with the status 413 was written.
     TooLarge,
+    /// The request proves a password, and as many workers as may were at that. A reply with the status 503 was written.
+    Busy,
     /// A write to the connection failed.
     WriteFault,
     /// The core refused a step, since its history would be too heavy. A reply with the status 503 was written.

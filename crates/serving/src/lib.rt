@@ -1,4 +1,5 @@
 //! A server for any role. One worker for each desk reads requests, steps the core and writes the replies, over one store.
+//! Proofs of passwords take long: workers make them behind a gate, so that some always serve other requests.
 //!
 //! | Module | What it has |
 //! |---|---|

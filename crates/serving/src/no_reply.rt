@@ -11,6 +11,11 @@ use sso_base::{Blob, NoMemory};
 use sso_http::{HttpNo, print_http_no, print_reply};
 use std::alloc::Global;
 
+/// The reply to a request that proves a password, if as many workers as may are at that.
+const BUSY: &[u8] =
+    b"HTTP/1.1 503 Service Unavailable\r\nRetry-After: 1\r\nCache-Control: no-store\r\nContent-Type: text/plain; charset=utf-8\r\n\
+      Content-Length: 5\r\nConnection: close\r\n\r\nbusy\n";
+
 /// Why a connection gets no reply of a core.
 #[derive(Clone, Copy, Debug, PartialEq, Eq)]
 pub enum NoReply {
@@ -24,6 +29,8 @@ pub enum NoReply {
     Peer,
     /// The request, or the answer of another server, is larger than the server takes.
     TooLarge,
+    /// The request proves a password, and as many workers as may prove passwords, or wait for that.
+    Busy,
     /// The core refused a step, since its history would be too heavy.
     Full,
 }
@@ -50,6 +57,7 @@ impl NoReply {
             NoReply::Link => ServedEnd::Link,
             NoReply::Peer => ServedEnd::Peer,
             NoReply::TooLarge => ServedEnd::TooLarge,
+            NoReply::Busy => ServedEnd::Busy,
             NoReply::Full => ServedEnd::Full,
         }
     }
@@ -61,6 +69,14 @@ fn line(alloc: Global, status: u16, word: &str) -> Result<Blob, NoMemory>
 {
     let reply = plain(alloc, status, word)?;
     print_reply(alloc, &reply)
+}
+
+// That the client is to come again in a second.
+#[tactic(auto, unfolding(crate::specs::Told::busy_bytes))]
+fn busy(alloc: Global) -> Result<Blob, NoMemory>
+    ensures { IfOk result (λ b. b ≡ spec.busy_bytes) }
+{
+    Blob::new(alloc, BUSY)
 }
 
 /// The bytes to send instead of a reply. `None` if nobody would receive them. If memory ran out, this takes none and returns
@@ -77,6 +93,7 @@ pub fn told(alloc: Global, no: &NoReply) -> Result<Option<Blob>, NoMemory>
         NoReply::Link => Ok(Some(line(alloc, 502, "link")?)),
         NoReply::Peer => Ok(Some(line(alloc, 502, "peer")?)),
         NoReply::TooLarge => Ok(Some(line(alloc, 413, "size")?)),
+        NoReply::Busy => Ok(Some(busy(alloc)?)),
         NoReply::Full => Ok(Some(line(alloc, 503, "journal")?)),
     }
 }

@@ -29,6 +29,10 @@ pub trait Role: Sync {
         requires { ready self.now }
         ensures { IfOk result (λ asked. asked ≡ (manner self.now).prepared request.now) };
 
+    /// Whether parsing a request proves a password, which takes a good part of a second.
+    fn proves(&self, request: &Ask) -> bool
+        ensures { result ≡ (manner self.now).proves request.now };
+
     /// The request to another server that a reply makes, if it makes one.
     fn question(
         &self,
@@ -46,6 +50,11 @@ pub trait Role: Sync {
     ) -> Result<<Self::Core as Core>::Ask, NoMemory>
         requires { ready self.now }
         ensures { IfOk result (λ asked. asked ≡ (manner self.now).answered reply.now answer.now) };
+
+    /// The number of workers, if there are as many desks.
+    fn workers(&self) -> u32
+        requires { ready self.now }
+        ensures { result ≡ (manner self.now).workers };
 
     /// Whether a parsed request is small enough for the server.
     fn takes(&self, ask: &<Self::Core as Core>::Ask) -> bool

@@ -1,8 +1,10 @@
 // One connection is served.
 
-ghost use Rattle.std.specs.Prelude.{◌≡◌, ◌≢◌, ◌⊎◌, ◌+◌, ◌≤◌, ◌<◌, ◌++◌, ◌∷◌, ℕ, List, [], map, length, Ok, Err, Some, None, IfOk, IfErr, IfSome, OnErr};
+ghost use Rattle.std.specs.Prelude.{◌≡◌, ◌≢◌, ◌⊎◌, ◌+◌, ◌≤◌, ◌<◌, ◌++◌, ◌∷◌, ℕ, true, false, List, [], map, length};
+ghost use Rattle.std.specs.Prelude.{Ok, Err, Some, None, IfOk, IfErr, IfSome, OnErr};
 ghost use Rattle.sso_base.specs.Faults.{Rose};
 ghost use Rattle.turn_store.specs.Passes.{IsPassOf, number_of, front_of, setup_of};
+ghost use Rattle.work_permits.specs.Gates.{IsEnteredAt, IsTurnedAway};
 ghost use Rattle.serving.specs.LinkCalls.{LinkCall, sending_of, TookCalls};
 ghost use Rattle.serving.specs.Manner.{Manner, bytes_by};
 ghost use Rattle.serving.specs.Serving as spec;
@@ -18,42 +20,94 @@ use crate::sending::{Page, printed, printed_all, send};
 use crate::step::step;
 use crate::writing::{write_page, write_without};
 use server_desk::{Clock, Connection, Draw, Link, LinkNo, Source, Tools};
-use sso_base::{Answered, Blob, Core, Message, NoMemory, Sink};
+use sso_base::{Answered, Ask, Blob, Core, Message, NoMemory, Sink};
 use sso_http::{HttpNo, print_reply, read_ask, read_peer};
 use std::alloc::Global;
 use std::sync::Wait;
 use turn_store::Pass;
+use work_permits::{AllTaken, Entered};
+
+// The parsed form of a request that proves no password.
+fn parsed_at_once<R: Wait, X: Role>(
+    backend: &Backend<'_, R, X, X::Core>,
+    request: &Ask,
+) -> Result<<X::Core as Core>::Ask, NoMemory>
+    requires ready { X.ready backend.now.role.now }
+    requires quick { (X.manner backend.now.role.now).proves request.now ≡ false }
+    ensures { IfOk result (λ asked. asked ≡ (X.manner backend.now.role.now).prepared request.now) }
+{
+    backend.role.prepare(backend.alloc, request)
+}
+
+// The parsed form of any request, by a worker that has entered the gate.
+fn parsed_behind<R: Wait, X: Role>(
+    backend: &Backend<'_, R, X, X::Core>,
+    _entered: &Entered,
+    request: &Ask,
+) -> Result<<X::Core as Core>::Ask, NoMemory>
+    requires ready { X.ready backend.now.role.now }
+    requires entered { IsEnteredAt backend.now.gate.now _entered.now }
+    ensures { IfOk result (λ asked. asked ≡ (X.manner backend.now.role.now).prepared request.now) }
+{
+    backend.role.prepare(backend.alloc, request)
+}
+
+// The parsed form of a request. One that proves a password is parsed behind the gate, or turned away there.
+fn parsed<R: Wait, X: Role>(
+    backend: &Backend<'_, R, X, X::Core>,
+    request: &Ask,
+) -> Result<Result<<X::Core as Core>::Ask, AllTaken>, NoMemory>
+    requires { X.ready backend.now.role.now }
+    ensures ok { IfOk result (λ parsed. IfOk parsed (λ asked. asked ≡ (X.manner backend.now.role.now).prepared request.now)) }
+    ensures turned_away { IfOk result (λ parsed. IfErr parsed (IsTurnedAway backend.now.gate.now)) }
+    ensures proves { IfOk result (λ parsed. OnErr parsed ((X.manner backend.now.role.now).proves request.now ≡ true)) }
+{
+    if !backend.role.proves(request) {
+        return Ok(Ok(parsed_at_once(backend, request)?));
+    }
+    match backend.gate.enter(backend.rt) {
+        Ok(entered) => {
+            let asked = parsed_behind(backend, &entered, request);
+            backend.gate.leave(entered);
+            Ok(Ok(asked?))
+        }
+        Err(taken) => Ok(Err(taken)),
+    }
+}
 
 // The parsed request of a connection.
-fn prepared<X: Role, S: Source>(
-    alloc: Global,
-    role: &X,
+fn prepared<R: Wait, X: Role, S: Source>(
+    backend: &Backend<'_, R, X, X::Core>,
     source: &mut S,
 ) -> Result<<X::Core as Core>::Ask, NoReply>
-    requires { X.ready role.now }
-    ensures ok { IfOk result (spec.IsPrepared (X.manner role.now) (S.left source.old) (S.left source.new)) }
-    ensures err { IfErr result (spec.IsUnread (X.manner role.now) (S.left source.old) (S.left source.new) (S.faults source.old) (S.faults source.new)) }
+    requires { X.ready backend.now.role.now }
+    ensures ok { IfOk result (spec.IsPrepared (X.manner backend.now.role.now) (S.left source.old) (S.left source.new)) }
+    ensures err { IfErr result (spec.IsUnread (X.manner backend.now.role.now)
+        (S.left source.old) (S.left source.new) (S.faults source.old) (S.faults source.new)) }
 {
-    let (first, second) = role.cookies(alloc)?;
-    match read_ask(alloc, source, &first, &second) {
-        Ok(request) => Ok(role.prepare(alloc, &request)?),
+    let (first, second) = backend.role.cookies(backend.alloc)?;
+    match read_ask(backend.alloc, source, &first, &second) {
+        Ok(request) => match parsed(backend, &request)? {
+            Ok(asked) => Ok(asked),
+            Err(_taken) => Err(NoReply::Busy),
+        },
         Err(HttpNo::NoMemory) => Err(NoReply::NoMemory),
         Err(why) => Err(NoReply::Http(why)),
     }
 }
 
 // The parsed request of a connection, if it is small enough.
-fn asked<X: Role, S: Source>(
-    alloc: Global,
-    role: &X,
+fn asked<R: Wait, X: Role, S: Source>(
+    backend: &Backend<'_, R, X, X::Core>,
     source: &mut S,
 ) -> Result<<X::Core as Core>::Ask, NoReply>
-    requires { X.ready role.now }
-    ensures ok { IfOk result (spec.IsAsked (X.manner role.now) (S.left source.old) (S.left source.new)) }
-    ensures err { IfErr result (spec.IsUnread (X.manner role.now) (S.left source.old) (S.left source.new) (S.faults source.old) (S.faults source.new)) }
+    requires { X.ready backend.now.role.now }
+    ensures ok { IfOk result (spec.IsAsked (X.manner backend.now.role.now) (S.left source.old) (S.left source.new)) }
+    ensures err { IfErr result (spec.IsUnread (X.manner backend.now.role.now)
+        (S.left source.old) (S.left source.new) (S.faults source.old) (S.faults source.new)) }
 {
-    let ask = prepared(alloc, role, source)?;
-    if !role.takes(&ask) {
+    let ask = prepared(backend, source)?;
+    if !backend.role.takes(&ask) {
         drop(ask);
         return Err(NoReply::TooLarge);
     }
@@ -189,7 +243,7 @@ fn reply_to<R: Wait, X: Role, S: Source, L: Link, C: Clock, W: Draw>(
         (S.left source.old) (S.left source.new) (S.faults source.old) (S.faults source.new) (front_of pass.new) w.steps w.calls result
         × (places.new ≡ length w.steps) }
 {
-    let ask = asked(backend.alloc, backend.role, source)?;
+    let ask = asked(backend, source)?;
     let first = step(backend, pass, &mut tools.clock, &mut tools.draw, ask)?;
     *places += 1;
     last_reply(backend, pass, tools, places, first)

@@ -36,7 +36,10 @@ use Rattle.op_exchange.specs.declared.ask.OpAsk.{OpAsk}
 use Rattle.op_exchange.specs.declared.ask.OpAsk.TheVariants as ask
 use Rattle.op_exchange.specs.declared.reply.OpReply.{OpReply}
 use Rattle.op_exchange.specs.declared.reply.OpReply.TheVariants as op
-use Rattle.html_pages.specs.Documents.{head_text, document, body_shown}
+use Rattle.std.specs.Prelude.{decimal}
+use Rattle.oidc_words.specs.Lives.{turn_life}
+use Rattle.oidc_words.specs.Paths.{login_path}
+use Rattle.html_pages.specs.Documents.{head_text, document, document_until, body_shown}
 use Rattle.op_response.specs.Pages.{login_text, consent_text}
 use Rattle.op_response.specs.FullPages.{login_content, consent_content, signed_out_content, full_signed_out_page, signed_out_page}
 use Rattle.op_response.specs.Telling.{http_of as op_http, login_body, consent_body, application_title}
@@ -136,10 +139,14 @@ document_is_page : (heading site content : Text) → is_page (document heading s
 unfolding head_text
 document_is_page heading site content = refl
 
+document_until_is_page : (seconds to heading site content : Text) → is_page (document_until seconds to heading site content) ≡ true
+unfolding head_text
+document_until_is_page seconds to heading site content = refl
+
 login_is_page : (is_full : Bool) (site prefix turn : Text) (again : Bool) → is_page (login_body is_full site prefix turn again) ≡ true
 unfolding login_text
 login_is_page false site prefix turn again = refl
-login_is_page true site prefix turn again = document_is_page (codes "Sign in") site (login_content prefix turn again)
+login_is_page true site prefix turn again = document_until_is_page (decimal turn_life) (prefix ++ login_path) (codes "Sign in") site (login_content prefix turn again)
 
 consent_is_page : (is_full : Bool) (c : Configuration) (turn client : Text) (scopes : Scopes) → is_page (consent_body is_full c turn client scopes) ≡ true
 unfolding consent_text

@@ -10,10 +10,11 @@ use Rattle.op_exchange.specs.declared.ask.OpAsk.TheVariants.{SignOut}
 use Rattle.op_exchange.specs.declared.reply.OpReply.{OpReply}
 use Rattle.op_exchange.specs.declared.reply.OpReply.TheVariants.{SignedOut}
 use Rattle.op_answer.specs.Past.{OpPair}
-use Rattle.core_stack.specs.Stacks.{may_be_own, provider_pair, AddsPair, AddsGiven}
+use Rattle.core_stack.specs.Stacks.{may_be_own, provider_pair, AddsPair, AddsGiven, AreNotices}
 use Rattle.core_stack.specs.Stacked.{AreAnswered}
 use Rattle.core_stack.proofs.Passing.{own_adds_none, passed_adds_one}
-use Rattle.core_stack.proofs.Stacking.{legal_inside}
+use Rattle.core_stack.proofs.Stacking.{legal_inside, outer_notices_are}
+use Rattle.core_stack.proofs.Same.{some_same}
 use Rattle.end_request.specs.declared.wish.EndWish.{EndWish}
 use Rattle.end_request.specs.declared.wish.EndNo.{EndNo}
 use Rattle.end_request.specs.Ending.{end_read, location}
@@ -22,9 +23,11 @@ use Rattle.signout_answer.specs.declared.asks.EndAsk.TheVariants.{Through, Start
 use Rattle.signout_answer.specs.declared.asks.EndReply.{EndReply}
 use Rattle.signout_answer.specs.declared.asks.EndReply.TheVariants as reply
 use Rattle.signout_answer.specs.declared.asks.EndSetup.{EndSetup}
+use Rattle.signout_answer.specs.declared.parts.OwnReply.{OwnReply}
+use Rattle.signout_answer.specs.declared.parts.OwnReply.TheVariants as own
 use Rattle.signout_answer.specs.declared.questions.QuestionRow.{QuestionRow}
 use Rattle.signout_answer.specs.Questions.{held_in}
-use Rattle.signout_answer.specs.Around.{Outer, IsEndAsk, pair_inside, passed_by, passed, inner_history, plain_inside, reply_inside, notices_inside, end_weight}
+use Rattle.signout_answer.specs.Around.{Outer, IsEndAsk, pair_inside, passed_by, passed, inner_history, own_reply, plain_inside, reply_inside, notices_inside, end_weight}
 use Rattle.signout_answer.specs.Answering.{is_small, question_doing, start_doing, confirm_doing, IsReply, questions, has_room, asked_question, doing}
 use Rattle.signout_answer.specs.Answering.{IsEndReply, SignoutSetup, IsLegalSignout}
 use Rattle.signout_answer.proofs.Questioning.{answered_is, sign_out_is}
@@ -34,22 +37,62 @@ pair_of at fresh asked told = record { entry = record { at = at; fresh = fresh; 
 
 -- ---- replies that show nothing of the provider
 
-module _ {R : Type 0} (f : R → Option OpReply) where
-  shown_alike : (told other : EndReply R) → told ≡ other → reply_inside f other ≡ None → reply_inside f told ≡ None
-  shown_alike told other same none = let S : EndReply R → Option OpReply = λ t. reply_inside f t in ap S same ∙ none
+-- what is seen of a reply, where nothing is seen of the core's own replies
+module _ {R X : Type 0} (view : EndReply R → Option X) (hidden : (o : OwnReply) → view (own_reply o) ≡ None) where
+  own_shows_none : (told : EndReply R) (o : OwnReply) → told ≡ own_reply o → view told ≡ None
+  own_shows_none told o same = ap view same ∙ hidden o
 
-  question_shows_none : (room : Bool) (w : Word) (told : EndReply R) → IsReply (question_doing room w) told → reply_inside f told ≡ None
-  question_shows_none true w told is = shown_alike told (reply.Sure w) is refl
-  question_shows_none false w told is = shown_alike told reply.Full is refl
+  question_shows_none : (room : Bool) (w : Word) (told : EndReply R) → IsReply (question_doing room w) told → view told ≡ None
+  question_shows_none true w told is = own_shows_none told (own.Sure w) is
+  question_shows_none false w told is = own_shows_none told own.Full is
 
-  start_shows_none : (c : EndSetup) (room : Bool) (w : Word) (o : Result EndWish EndNo) (told : EndReply R) → IsReply (start_doing c room w o) told → reply_inside f told ≡ None
-  start_shows_none c room w (Err why) told is = shown_alike told (reply.Wrong why) is refl
+  start_shows_none : (c : EndSetup) (room : Bool) (w : Word) (o : Result EndWish EndNo) (told : EndReply R) → IsReply (start_doing c room w o) told → view told ≡ None
+  start_shows_none c room w (Err why) told is = own_shows_none told (own.Wrong why) is
   start_shows_none c room w (Ok wish) told is = question_shows_none (room && is_small c wish) w told is
 
-  confirm_shows_none : (o : Option QuestionRow) (agree : Bool) (told : EndReply R) → IsReply (confirm_doing o agree) told → reply_inside f told ≡ None
-  confirm_shows_none None agree told is = shown_alike told reply.Stale is refl
-  confirm_shows_none (Some row) false told is = shown_alike told reply.Kept is refl
-  confirm_shows_none (Some row) true told is = shown_alike told (reply.Gone (location row.wish) is.0) is.1 refl
+  confirm_shows_none : (o : Option QuestionRow) (agree : Bool) (told : EndReply R) → ((back : Option Text) (r : R) → told ≡ reply.Gone back r → view told ≡ None) → IsReply (confirm_doing o agree) told → view told ≡ None
+  confirm_shows_none None agree told goes is = own_shows_none told own.Stale is
+  confirm_shows_none (Some row) false told goes is = own_shows_none told own.Kept is
+  confirm_shows_none (Some row) true told goes is = goes (location row.wish) is.0 is.1
+
+module _ {R : Type 0} (f : R → Option OpReply) where
+  abbrev reply_view : EndReply R → Option OpReply
+  reply_view told = reply_inside f told
+
+  own_reply_hidden : (o : OwnReply) → reply_inside f (own_reply o) ≡ None
+  own_reply_hidden (own.Sure w) = refl
+  own_reply_hidden (own.Wrong why) = refl
+  own_reply_hidden own.Kept = refl
+  own_reply_hidden own.Stale = refl
+  own_reply_hidden own.Full = refl
+
+  start_hidden : (c : EndSetup) (room : Bool) (w : Word) (o : Result EndWish EndNo) (told : EndReply R) → IsReply (start_doing c room w o) told → reply_inside f told ≡ None
+  start_hidden c room w o told is = start_shows_none reply_view own_reply_hidden c room w o told is
+
+  gone_hidden : (told : EndReply R) (back : Option Text) (r : R) → told ≡ reply.Gone back r → reply_inside f told ≡ None
+  gone_hidden told back r same = ap reply_view same
+
+  confirm_hidden : (o : Option QuestionRow) (agree : Bool) (told : EndReply R) → IsReply (confirm_doing o agree) told → reply_inside f told ≡ None
+  confirm_hidden o agree told is = confirm_shows_none reply_view own_reply_hidden o agree told (λ back r same. gone_hidden told back r same) is
+
+module _ {R : Type 0} (notices : R → Option (List Message)) where
+  own_notices_hidden : (o : OwnReply) → notices_inside notices (own_reply o) ≡ None
+  own_notices_hidden (own.Sure w) = refl
+  own_notices_hidden (own.Wrong why) = refl
+  own_notices_hidden own.Kept = refl
+  own_notices_hidden own.Stale = refl
+  own_notices_hidden own.Full = refl
+
+module _ {A R : Type 0} (notices : R → Option (List Message)) where
+  -- the messages of a reply to what was passed on
+  passed_notices : (at : ℕ) (fresh : List Word) (asked : EndAsk A) (told : EndReply R) (q : Pair A R) → passed_by at fresh asked told ≡ Some q → notices_inside notices told ≡ notices q.reply
+  passed_notices at fresh (Through a) (reply.Through r) q is =
+      let N : Pair A R → Option (List Message) = λ y. notices y.reply in
+      ap N (some_same (pair_inside at fresh a r) q is)
+  passed_notices at fresh (Confirm word agree session a) (reply.Gone back r) q is =
+      let N : Pair A R → Option (List Message) = λ y. notices y.reply in
+      ap N (some_same (pair_inside at fresh a r) q is)
+  passed_notices at fresh asked told q is = absurd (cc)
 
 -- equal setups have equal setups inside
 pub same_inside : {S : Type 0} {s t : SignoutSetup S} → s ≡ t → s.inner ≡ t.inner
@@ -114,10 +157,10 @@ module _ {A R : Type 0} (c : EndSetup) (plain : A → Option OpAsk) where
         → AddsGiven at fresh None (reply_inside given told) (provided (inner_history h)) (after (pair_of at fresh (Confirm word agree session a) told))
     confirm_added at fresh word agree session a told None signs is inside =
         let Q : EndReply R → Option (Pair A R) = λ t. passed_by at fresh (Confirm word agree session a) t in
-        none_added at fresh (Confirm word agree session a) told (ap Q is) (confirm_shows_none given None agree told is)
+        none_added at fresh (Confirm word agree session a) told (ap Q is) (confirm_hidden given None agree told is)
     confirm_added at fresh word false session a told (Some row) signs is inside =
         let Q : EndReply R → Option (Pair A R) = λ t. passed_by at fresh (Confirm word false session a) t in
-        none_added at fresh (Confirm word false session a) told (ap Q is) (confirm_shows_none given (Some row) false told is)
+        none_added at fresh (Confirm word false session a) told (ap Q is) (confirm_hidden given (Some row) false told is)
     confirm_added at fresh word true session a told (Some row) signs is inside =
         let Q : EndReply R → Option (Pair A R) = λ t. passed_by at fresh (Confirm word true session a) t in
         gone_added at fresh word true session a told (location row.wish) is.0 is.1 (signs row refl) (inside (pair_inside at fresh a is.0) (ap Q is.1))
@@ -130,7 +173,7 @@ module _ {A R : Type 0} (c : EndSetup) (plain : A → Option OpAsk) where
         through_added at fresh a told is.0 is.1 (inside (pair_inside at fresh a is.0) (ap Q is.1))
     adds_by at fresh (Start form session) told is inside =
         none_added at fresh (Start form session) told refl
-        (start_shows_none given c (has_room c (reverse h) at (fresh_word fresh 0)) (fresh_word fresh 0) (end_read c.registry c.returns form) told is)
+        (start_hidden given c (has_room c (reverse h) at (fresh_word fresh 0)) (fresh_word fresh 0) (end_read c.registry c.returns form) told is)
     adds_by at fresh (Confirm word agree session a) told is inside =
         confirm_added at fresh word agree session a told (asked_question c plain (reverse h) at word session a)
         (λ row there. sign_out_is session (plain a) (answered_is session (plain a) (held_in at word (questions c (reverse h))) row there).2) is inside
@@ -142,11 +185,11 @@ module _ {A R : Type 0} (c : EndSetup) (plain : A → Option OpAsk) where
       → reply_inside f told ≡ Some r → (a : A) × (x : R) × (asked ≡ Through a) × (told ≡ reply.Through x)
   through_by f past at fresh (Through a) told r is shows = (a, is.0, refl, is.1)
   through_by f past at fresh (Start form session) told r is shows =
-      let none : reply_inside f told ≡ None = start_shows_none f c (has_room c past at (fresh_word fresh 0)) (fresh_word fresh 0) (end_read c.registry c.returns form) told is in
+      let none : reply_inside f told ≡ None = start_hidden f c (has_room c past at (fresh_word fresh 0)) (fresh_word fresh 0) (end_read c.registry c.returns form) told is in
       let clash : ◌≡◌ {A = Option OpReply} None (Some r) = sym none ∙ shows in
       absurd (cc)
   through_by f past at fresh (Confirm word agree session a) told r is shows =
-      let none : reply_inside f told ≡ None = confirm_shows_none f (asked_question c plain past at word session a) agree told is in
+      let none : reply_inside f told ≡ None = confirm_hidden f (asked_question c plain past at word session a) agree told is in
       let clash : ◌≡◌ {A = Option OpReply} None (Some r) = sym none ∙ shows in
       absurd (cc)
 
@@ -156,6 +199,23 @@ module _ {A R : Type 0} (c : EndSetup) (plain : A → Option OpAsk) where
   asked_by past at fresh (Through a) told r is asks = (a, is.0, refl, is.1)
   asked_by past at fresh (Start form session) told r is asks = absurd (cc)
   asked_by past at fresh (Confirm word agree session a) told r is asks = absurd (cc)
+
+  -- ---- the messages of a reply
+
+  -- a reply to what was not passed on has none
+  none_noted : (notices : R → Option (List Message)) (past : List (Outer A R)) (at : ℕ) (fresh : List Word) (asked : EndAsk A) (told : EndReply R) → IsReply (doing c plain past at fresh asked) told
+      → passed_by at fresh asked told ≡ None → notices_inside notices told ≡ None
+  none_noted notices past at fresh (Through a) told is none =
+      let Q : EndReply R → Option (Pair A R) = λ t. passed_by at fresh (Through a) t in
+      let clash : ◌≡◌ {A = Option (Pair A R)} (Some (pair_inside at fresh a is.0)) None = sym (ap Q is.1) ∙ none in
+      absurd (cc)
+  none_noted notices past at fresh (Start form session) told is none =
+      start_shows_none (λ t. notices_inside notices t) (λ o. own_notices_hidden notices o) c (has_room c past at (fresh_word fresh 0)) (fresh_word fresh 0) (end_read c.registry c.returns form) told is
+  none_noted notices past at fresh (Confirm word agree session a) told is none =
+      confirm_shows_none (λ t. notices_inside notices t) (λ o. own_notices_hidden notices o) (asked_question c plain past at word session a) agree told
+      (λ back r same. let Q : EndReply R → Option (Pair A R) = λ t. passed_by at fresh (Confirm word agree session a) t in
+      let clash : ◌≡◌ {A = Option (Pair A R)} (Some (pair_inside at fresh a r)) None = sym (ap Q same) ∙ none in
+      absurd (cc)) is
 
 -- ---- over legal histories
 
@@ -215,3 +275,13 @@ module _ {A R S : Type 0} (plain : A → Option OpAsk) (given : R → Option OpR
       let q : Pair A R = pair_inside p.entry.at p.entry.fresh through.0 through.1 in
       let out = inner q (last_inside legal q (inside_is through.0 through.1 through.2 through.3)) (sym (ap F through.2) ∙ asked) in
       (out.0, ap G through.3 ∙ out.1, ap N through.3 ∙ out.2)
+
+  -- the messages of a reply are those of the inner core's reply
+  pub end_notices_tell : (notices : R → Option (List Message)) (provided : List (Pair A R) → List OpPair) → Legal
+      → ((q : Pair A R) → IsLegalInner s.inner (inner_history h ++ q ∷ []) → AreNotices (notices q.reply) (provided (inner_history h)) (provided (inner_history h ++ q ∷ [])))
+      → AreNotices (notices_inside notices p.reply) (provided (inner_history h)) (provided (inner_history (h ++ p ∷ [])))
+  end_notices_tell notices provided legal inner =
+      outer_notices_are passed provided (notices_inside notices p.reply) h p
+      (λ none. none_noted s.own plain notices (reverse h) p.entry.at p.entry.fresh p.entry.ask p.reply (last_answered legal) none)
+      (λ q is. let T : Option (List Message) → Type 0 = λ o. AreNotices o (provided (inner_history h)) (provided (inner_history h ++ q ∷ [])) in
+      subst T (sym (passed_notices notices p.entry.at p.entry.fresh p.entry.ask p.reply q is)) (inner q (last_inside legal q is)))

@@ -20,7 +20,8 @@ use Rattle.signout_answer.specs.declared.asks.EndReply.{EndReply}
 use Rattle.signout_answer.specs.declared.asks.EndReply.TheVariants as reply
 use Rattle.signout_answer.specs.declared.asks.EndSetup.{EndSetup}
 use Rattle.signout_answer.specs.declared.questions.QuestionRow.{QuestionRow}
-use Rattle.signout_answer.specs.Questions.{question_life, question_name, question_begun, held_in, unless_ended}
+use Rattle.oidc_words.specs.Lives.{question_life}
+use Rattle.signout_answer.specs.Questions.{question_name, question_begun, held_in, unless_ended}
 use Rattle.signout_answer.specs.Around.{Outer}
 use Rattle.signout_answer.specs.Answering.{question_of, question_by, ended_by, is_same_word, is_sign_out, if_answered, question_made, question_kept, questions}
 use Rattle.signout_answer.specs.Laws.{WasAsked}

@@ -24,7 +24,8 @@ use Rattle.signout_answer.specs.declared.parts.OwnReply.TheVariants.{Sure, Wrong
 use Rattle.signout_answer.specs.declared.parts.Doing.{Doing}
 use Rattle.signout_answer.specs.declared.parts.Doing.TheVariants.{Own, Pass, Go}
 use Rattle.signout_answer.specs.declared.questions.QuestionRow.{QuestionRow}
-use Rattle.signout_answer.specs.Questions.{question_life, question_name, question_begun, held_in, unless_ended}
+use Rattle.oidc_words.specs.Lives.{question_life}
+use Rattle.signout_answer.specs.Questions.{question_name, question_begun, held_in, unless_ended}
 use Rattle.signout_answer.specs.Around.{Outer, IsEndAsk, passed, own_reply, end_weight}
 
 -- ---- which questions a pair makes and ends

@@ -2,11 +2,8 @@
 use Rattle.std.specs.Prelude.{ℕ, List, Option, Some, None, option_and_then, if◌then◌else◌}
 use Rattle.sso_base.specs.Words.{Word, is_word}
 use Rattle.sso_base.specs.Rows.{row_of, if_lives}
+use Rattle.oidc_words.specs.Lives.{question_life}
 use Rattle.signout_answer.specs.declared.questions.QuestionRow.{QuestionRow}
-
--- how many seconds a question waits (our choice)
-abbrev pub question_life : ℕ
-question_life = 600
 
 abbrev pub question_name : QuestionRow → Word
 question_name row = row.word

@@ -5,10 +5,8 @@ ghost use Rattle.held_rows.specs.Held.{AnyRow, one_of};
 
 use end_request::EndWish;
 use held_rows::{By, Row};
+use oidc_words::QUESTION_LIFE;
 use sso_base::{Moment, Word};
-
-/// How many seconds a question waits.
-const QUESTION_LIFE: u32 = 600;
 
 /// A question that waits for the user. It lives for 600 seconds.
 #[derive(Drop)]
@@ -24,7 +22,8 @@ pub struct QuestionRow {
 }
 
 impl Row for QuestionRow {
-    ghost use Rattle.signout_answer.specs.Questions.{question_life, question_name, question_begun};
+    ghost use Rattle.oidc_words.specs.Lives.{question_life};
+    ghost use Rattle.signout_answer.specs.Questions.{question_name, question_begun};
 
     ghost name = { question_name };
 

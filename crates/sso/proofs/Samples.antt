@@ -17,6 +17,7 @@ use Rattle.client_registry.specs.declared.records.Provider.{Provider}
 use Rattle.client_registry.specs.Configuration.{Configuration, configuration_of}
 use Rattle.configuration_rows.specs.Versions.{version_in}
 use Rattle.client_registry.specs.Reading.{document_in, rows_read, records_read, subjects_read, registry_read}
+use Rattle.client_registry.specs.Records.{usual_settings}
 use Rattle.sso_base.specs.Words.{Text}
 use Rattle.sso_base.specs.Outside.{Content, content_of}
 use Rattle.jws_compact.specs.declared.no.JwsNo.{JwsNo}
@@ -78,6 +79,7 @@ configuration = record {
   lasting = false;
   full_pages = false;
   title = codes "a.b";
+  settings = usual_settings;
 }
 
 small_read : registry_read small ≡ Ok configuration

@@ -18,7 +18,7 @@ use Rattle.sso_http.specs.Fields.{values_of, first_of, only_of}
 use Rattle.sso_http.specs.Judging.{begins_with_slash, judgement_of, IsHeadOf}
 use Rattle.sso_http.specs.Lines.{IsHead, HasNoHead}
 use Rattle.sso_http.specs.Messages.{place_of, request_line}
-use Rattle.sso_http.specs.Peers.{cut_body, peer_body}
+use Rattle.sso_http.specs.Peers.{cut_body, peer_body, has_length, is_whole_body}
 use Rattle.sso_http.specs.Presented.{have_names, texts_under}
 use Rattle.sso_http.specs.Refusals.{status_of}
 use Rattle.sso_http.specs.Replies.{reason, type_line}
@@ -266,6 +266,19 @@ five_bytes_of_four = refl
 
 two_lengths_of_a_peer : cut_body (codes "1" ∷ codes "1" ∷ []) (codes "abcd") ≡ None
 two_lengths_of_a_peer = refl
+
+whole_with_more_behind : has_length (codes "3" ∷ []) (codes "abcd") ≡ true
+whole_with_more_behind = refl
+
+not_whole_yet : has_length (codes "5" ∷ []) (codes "abcd") ≡ false
+not_whole_yet = refl
+
+not_whole_without_a_length : has_length [] (codes "abcd") ≡ false
+not_whole_without_a_length = refl
+
+not_whole_in_chunks : is_whole_body ((codes "Transfer-Encoding", codes "chunked") ∷ (codes "Content-Length", codes "1") ∷ []) (codes "abcd") ≡ false
+unfolding is_whole_body
+not_whole_in_chunks = refl
 
 a_chunked_peer : peer_body ((codes "Transfer-Encoding", codes "chunked") ∷ []) (codes "abcd") ≡ None
 unfolding peer_body

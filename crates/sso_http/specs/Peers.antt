@@ -1,9 +1,10 @@
 -- The answer of a peer: a response head and its body (RFC 9112, 4 to 6).
-use Rattle.std.specs.Prelude.{◌≡◌, ◌≤◌, ℕ, nat_le, List, [], ◌∷◌, length, map, take, codes, Option, Some, None, option_map, option_and_then, if◌then◌else◌}
+use Rattle.std.specs.Prelude.{◌≡◌, ◌≤◌, ℕ, Bool, true, false, not, ◌&&◌, nat_le, List, [], ◌∷◌, length, map, take, codes, if◌then◌else◌}
+use Rattle.std.specs.Prelude.{Option, Some, None, is_some, option_map, option_and_then}
 use Rattle.httparse.specs.Grammar.{ResponseHead, ReadsResponse, status_code}
 use Rattle.httparse.specs.Spans.{name_and_value}
 use Rattle.sso_base.specs.declared.message.Answered.{Answered}
-use Rattle.sso_http.specs.Bodies.{has_transfer}
+use Rattle.sso_http.specs.Bodies.{is_empty, has_transfer}
 use Rattle.sso_http.specs.Decimals.{short_decimal}
 use Rattle.sso_http.specs.Fields.{Fields, values_of}
 use Rattle.sso_http.specs.Judging.{most_fields}
@@ -49,3 +50,19 @@ pub record IsResponseParts (bytes : List ℕ) (status : ℕ) (fields : Fields) (
   pub reads : IsResponse bytes head rest
   pub status_is : status ≡ status_code head
   pub fields_are : fields ≡ map name_and_value head.fields
+
+-- ---- answers that are whole by their length
+
+-- as many bytes are there as the one `Content-Length` says
+abbrev pub has_length : List (List ℕ) → List ℕ → Bool
+has_length values rest = not (is_empty values) && is_some (cut_body values rest)
+
+unfoldable pub is_whole_body : Fields → List ℕ → Bool
+is_whole_body fields rest = if has_transfer fields then false else has_length (values_of (codes "content-length") fields) rest
+
+-- the bytes are an answer, and no byte is missing, whether more follow or not
+pub record IsWhole (bytes : List ℕ) : Type 0 where
+  pub head : ResponseHead
+  pub rest : List ℕ
+  pub reads : IsResponse bytes head rest
+  pub whole : is_whole_body (map name_and_value head.fields) rest ≡ true

@@ -7,7 +7,7 @@ ghost use Rattle.sso_base.specs.declared.message.Answered.{Answered};
 ghost use Rattle.http_reply.specs.Told.{Named};
 ghost use Rattle.sso_http.specs.Cookies.{cookies_of};
 ghost use Rattle.sso_http.specs.Lines.{IsHead};
-ghost use Rattle.sso_http.specs.Peers.{IsAnswer};
+ghost use Rattle.sso_http.specs.Peers.{IsAnswer, IsWhole};
 ghost use Rattle.sso_http.specs.Presented.{presented, have_names, texts_under};
 ghost use Rattle.sso_http.specs.Replies.{reply_bytes};
 ghost use Rattle.sso_http.specs.Sendable.{IsSendable};
@@ -39,6 +39,11 @@ pub fn requests_without_a_cause_are_read()
 /// Bytes are at most one answer of a peer.
 pub fn peers_have_one_answer()
     ensures { (bytes : List ℕ) (a b : Answered) → IsAnswer bytes a → IsAnswer bytes b → a ≡ b }
+{}
+
+/// An answer that is whole by its length is an answer of a peer.
+pub fn whole_answers_are_answers()
+    ensures { (bytes : List ℕ) → IsWhole bytes → (a : Answered) × IsAnswer bytes a }
 {}
 
 /// A peer reads a written reply as its status and its body, and by `peers_have_one_answer` as nothing else. The reply's texts

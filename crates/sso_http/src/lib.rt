@@ -12,7 +12,7 @@
 //! | `reply` | [`print_reply`]: the bytes of a reply |
 //! | `refusal` | [`print_http_no`]: the bytes of the reply to a refused request |
 //! | `message` | [`print_message`] and [`message_place`]: the bytes of a message to another server, and its recipient |
-//! | `peer` | [`read_peer`] reads another server's answer |
+//! | `peer` | [`read_peer`] reads another server's answer, and [`is_whole`] says whether all of it has come |
 //! | `lines` | writes lines of a head |
 //! | `law` | lemmas about requests, replies and peers' answers, for the crates above |
 #![tactic(auto)]
@@ -38,10 +38,11 @@ mod reply;
 pub use ask::read_ask;
 pub use law::{
     bytes_have_one_answer, heads_end_once, peers_have_one_answer, presented_words_are_found,
-    requests_without_a_cause_are_read, whole_requests_are_read, written_replies_are_read,
+    requests_without_a_cause_are_read, whole_answers_are_answers, whole_requests_are_read,
+    written_replies_are_read,
 };
 pub use message::{message_place, print_message};
 pub use no::HttpNo;
-pub use peer::read_peer;
+pub use peer::{is_whole, read_peer};
 pub use refusal::print_http_no;
 pub use reply::print_reply;

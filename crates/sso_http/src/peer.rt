@@ -1,6 +1,6 @@
 // Parses the answers of peers.
 
-ghost use Rattle.std.specs.Prelude.{◌≡◌, ◌≤◌, ℕ, List, length, take, map, All, option_copied, IfOk, IfSome, IfNone};
+ghost use Rattle.std.specs.Prelude.{◌≡◌, ◌≤◌, ℕ, true, false, List, length, take, map, All, option_copied, IfOk, IfSome, IfNone};
 ghost use Rattle.httparse.specs.Grammar.{ResponseHead};
 ghost use Rattle.httparse.specs.Spans.{IsHeaderWithin, header_bytes};
 ghost use Rattle.sso_http.specs.Judging.{most_fields};
@@ -87,4 +87,43 @@ pub fn read_peer(alloc: Global, bytes: &[u8]) -> Result<Option<Answered>, NoMemo
         status,
         body: Blob::new(alloc, body)?,
     }))
+}
+
+// Whether as many bytes are there as the one `Content-Length` says, from the values of these fields and the bytes after the head.
+fn has_length(values: &[&[u8]], rest: &[u8]) -> bool
+    ensures { result ≡ spec.has_length (map (λ v. v.now) values.now) rest.now }
+{
+    !values.is_empty() && cut_body(values, rest).is_some()
+}
+
+// Whether the body is whole by its length, from the fields and the bytes after the head.
+#[tactic(auto, unfolding(crate::specs::Peers::is_whole_body))]
+fn is_whole_body(
+    alloc: Global,
+    bytes: &[u8],
+    spans: &[HeaderSpan],
+    rest: &[u8],
+) -> Result<bool, NoMemory>
+    requires { All (IsHeaderWithin (length bytes.now)) spans.now }
+    ensures { IfOk result (λ b. b ≡ spec.is_whole_body (map (header_bytes bytes.now) spans.now) rest.now) }
+{
+    if has_transfer(alloc, bytes, spans)? {
+        return Ok(false);
+    }
+    let lengths = values(alloc, bytes, spans, b"content-length")?;
+    Ok(has_length(&lengths, rest))
+}
+
+/// Whether the bytes of a peer's answer are all of it, by its one `Content-Length` (RFC 9112, 6.3): then [`read_peer`] takes them, and
+/// what may follow is none of it. An answer without that field ends with its connection.
+#[tactic(auto, using(crate::proofs::OnePeer::whole_by_parts, crate::proofs::OnePeer::not_whole_by_parts))]
+pub fn is_whole(alloc: Global, bytes: &[u8]) -> Result<bool, NoMemory>
+    ensures whole { IfOk result (λ b. b ≡ true → spec.IsWhole bytes.now) }
+    ensures other { IfOk result (λ b. b ≡ false → spec.IsWhole bytes.now → ⊥) }
+{
+    let mut spans = [EMPTY_HEADER_SPAN; 64];
+    match parts(bytes, &mut spans) {
+        Some((_status, count, rest)) => is_whole_body(alloc, bytes, &spans[..count], rest),
+        None => Ok(false),
+    }
 }

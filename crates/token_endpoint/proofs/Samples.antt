@@ -8,6 +8,7 @@ use Rattle.sso_base.specs.declared.message.Answered.{Answered}
 use Rattle.claim_set.specs.declared.no.ClaimNo.TheVariants as claims
 use Rattle.client_registry.specs.declared.records.Client.{Client}
 use Rattle.client_registry.specs.Configuration.{Configuration}
+use Rattle.client_registry.specs.Records.{usual_settings}
 use Rattle.request_params.specs.Form.{Pair, form_pairs}
 use Rattle.token_endpoint.specs.declared.basic.Credentials.{Credentials}
 use Rattle.token_endpoint.specs.declared.granting.Grant.{Grant}
@@ -63,6 +64,7 @@ here = record {
   lasting = false;
   full_pages = false;
   title = [];
+  settings = usual_settings;
 }
 
 abbrev shown : Text → Text → Credentials

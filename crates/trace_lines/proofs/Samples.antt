@@ -5,6 +5,7 @@ use Rattle.sso_base.specs.declared.http.Method.TheVariants.{Post, Other}
 use Rattle.oidc_words.specs.Types.{types_of_number}
 use Rattle.client_registry.specs.Configuration.{Configuration}
 use Rattle.client_registry.specs.declared.records.Party.{Party}
+use Rattle.client_registry.specs.Records.{usual_settings, usual_party_settings}
 use Rattle.trace_lines.specs.declared.no.Fault.{Fault}
 use Rattle.trace_lines.specs.declared.no.Fault.TheVariants as fault
 use Rattle.trace_lines.specs.declared.no.TraceNo.TheVariants as no
@@ -30,6 +31,7 @@ party name = record {
   userinfo = false;
   signed = false;
   redirect_url = record { secure = true; host = []; port = 443; path = []; query = None };
+  settings = usual_party_settings;
 }
 
 abbrev registry : Configuration
@@ -45,6 +47,7 @@ registry = record {
   lasting = false;
   full_pages = false;
   title = [];
+  settings = usual_settings;
 }
 
 -- three lines of which two take a place, at the moment 1000

@@ -2,6 +2,7 @@
 use Rattle.std.proofs.Common.{◌≡◌, true, false, [], ◌∷◌, arith, Some, None, codes, inl, inr, refl}
 use Rattle.client_registry.specs.declared.records.Client.{Client}
 use Rattle.client_registry.specs.Configuration.{Configuration}
+use Rattle.client_registry.specs.Records.{usual_settings}
 use Rattle.oidc_words.specs.declared.scopes.Scopes.{Scopes}
 use Rattle.oidc_words.specs.Scopes.{no_scopes, joined}
 use Rattle.oidc_words.specs.Claims.{scopes_with_any, scopes_with, profile_claims, email_claims, address_claims, phone_claims}
@@ -43,6 +44,7 @@ sample = record {
   lasting = false;
   full_pages = false;
   title = [];
+  settings = usual_settings;
 }
 
 abbrev profile : Scopes

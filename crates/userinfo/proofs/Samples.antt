@@ -10,6 +10,7 @@ use Rattle.claim_set.specs.declared.no.ClaimNo.TheVariants as claims
 use Rattle.claim_set.proofs.OnLiterals.{claims_on_literals}
 use Rattle.client_registry.specs.declared.records.User.{User}
 use Rattle.client_registry.specs.Configuration.{Configuration}
+use Rattle.client_registry.specs.Records.{usual_settings}
 use Rattle.oidc_words.specs.declared.scopes.Scopes.{Scopes}
 use Rattle.oidc_words.specs.Claims.{profile_claims, email_claims, address_claims, phone_claims, is_claim_of}
 use Rattle.oidc_words.specs.Scopes.{no_scopes, all_scopes}
@@ -69,6 +70,7 @@ here = record {
   lasting = false;
   full_pages = false;
   title = [];
+  settings = usual_settings;
 }
 
 members_with-two_of_three : members_with (λ k. is_wanted email_only [] k) all_of_alice ≡ member (codes "email") (string (codes "a@b.org")) (member (codes "email_verified") (boolean true) no_members)

@@ -456,6 +456,7 @@ registry_with_logout =
       user_rules = registry.user_rules;
       client_rules = (shop_is_client, (mail_is_client, tt));
       party_rules = registry.party_rules;
+      settings = record { issuer_https = refl; parties_https = refl; workers = refl };
     }
 
 logout_request-is_read : AsksParty with_logout 0 1 (carried with_logout (reply.Provider (op.SignedOut (record { to = codes "https://c.d/out?k=v"; auth = None; body = Some (form_text (logout_pairs (codes "x.y.z"))) } ∷ []))) 0)

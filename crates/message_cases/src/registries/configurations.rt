@@ -126,6 +126,35 @@ pub fn titles(alloc: Global, version: &str, old: &str, new: &str) -> Result<Stri
     all_titles(alloc, &answer)
 }
 
+fn told_settings(alloc: Global, registry: &Registry) -> Result<String, NoMemory> {
+    let cookies = if registry.host_cookies() {
+        "host"
+    } else {
+        "plain"
+    };
+    let workers = registry.workers();
+    let first = if 0 < registry.parties() {
+        registry.party(0).settings.workers
+    } else {
+        0
+    };
+    Ok(format!(in alloc; "{cookies} cookies, {workers} workers, first party {first}")?)
+}
+
+fn all_settings(alloc: Global, answer: &Result<Registry, RegNo>) -> Result<String, NoMemory> {
+    match answer {
+        Ok(registry) => told_settings(alloc, registry),
+        Err(why) => told_refusal(alloc, refusal(why)),
+    }
+}
+
+/// `settings|VERSION|OLD|NEW`: the names of its cookies, and the workers of the provider and of its first party.
+pub fn settings(alloc: Global, version: &str, old: &str, new: &str) -> Result<String, NoMemory> {
+    let file = sample_of(alloc, version, old, new)?;
+    let answer = read_registry(alloc, file.as_bytes());
+    all_settings(alloc, &answer)
+}
+
 /// `file|TEXT`: a whole file. ` / ` is a line feed.
 pub fn file(alloc: Global, text: &str) -> Result<String, NoMemory> {
     let lines = text.replace(alloc, " / ", "\n")?;

@@ -12,7 +12,7 @@ returns c =
     let s : Text = c.args.page.now in
     let a : Text = codes "<label for=\"user\">User name</label>\n<input id=\"user\" name=\"" in
     let between : Text =
-    codes "\" autocomplete=\"username\" spellcheck=\"false\" required autofocus>\n<label for=\"password\">Password</label>\n"
+    codes "\" autocomplete=\"username\" autocapitalize=\"none\" spellcheck=\"false\" required autofocus>\n<label for=\"password\">Password</label>\n"
     ++ codes "<input id=\"password\" type=\"password\" name=\"" in
     let last : Text = codes "\" autocomplete=\"current-password\" required>\n<button>Sign in</button>\n</form>\n" in
     let b : Text = a ++ user_field in

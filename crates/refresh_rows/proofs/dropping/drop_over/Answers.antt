@@ -1,6 +1,6 @@
 use Rattle.std.proofs.Common.{refl, sym, ◌∙◌}
 use Rattle.sso_base.specs.Rows.{lives}
-use Rattle.refresh_answer.specs.Rows.{family_life}
+use Rattle.oidc_words.specs.Lives.{family_life}
 use Rattle.refresh_answer.specs.declared.rows.FamilyRow.{FamilyRow}
 use Rattle.refresh_answer.specs.declared.rows.AccessRow.{AccessRow}
 use Rattle.refresh_rows.specs.declared.token_row.TokenRow.{TokenRow}

@@ -1,6 +1,7 @@
 use Rattle.std.proofs.Common.{◌≡◌, length}
 use Rattle.sso_base.specs.Rows.{live_rows}
-use Rattle.refresh_answer.specs.Rows.{family_life, family_begun}
+use Rattle.oidc_words.specs.Lives.{family_life}
+use Rattle.refresh_answer.specs.Rows.{family_begun}
 use Rattle.refresh_rows.specs.TokenRows.{tokens_of, accesses_of}
 use Rattle.refresh_rows.proofs.dropping.drop_over.Given as goal
 

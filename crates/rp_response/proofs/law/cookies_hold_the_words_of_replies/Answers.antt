@@ -1,4 +1,4 @@
-use Rattle.rp_response.proofs.CookieLaws.{cookies_read, browser_set_if_given, session_set_if_given}
+use Rattle.rp_response.proofs.CookieLaws.{cookies_read, browser_set_if_given, session_set_if_given, cookies_taken}
 use Rattle.rp_response.proofs.law.cookies_hold_the_words_of_replies.Goals as goal
 
 pub returns-clause-read : goal.returns-clause-read
@@ -9,3 +9,6 @@ returns-clause-browser c = browser_set_if_given
 
 pub returns-clause-session : goal.returns-clause-session
 returns-clause-session c = session_set_if_given
+
+pub returns-clause-taken : goal.returns-clause-taken
+returns-clause-taken c = cookies_taken

@@ -1,6 +1,7 @@
 use Rattle.sso_base.specs.Rows.{live_rows}
 use Rattle.core_stack.proofs.MarksHeld.{may_through}
-use Rattle.signout_answer.specs.Questions.{question_life, question_name, question_begun}
+use Rattle.oidc_words.specs.Lives.{question_life}
+use Rattle.signout_answer.specs.Questions.{question_name, question_begun}
 use Rattle.rp_signout.specs.Keeps.{rows_left}
 use Rattle.rp_signout.proofs.table.keep_questions.Goals as goal
 

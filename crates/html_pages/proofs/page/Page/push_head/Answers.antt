@@ -25,4 +25,4 @@ returns c =
     let five : c.push-3.new.self ≡ s ++ f = pushed s c.push_text-2.new.self c.push-3.new.self e (codes "</title>\n<style>") four c.in_ok-push-3.ensures in
     let styled : c.push-4.new.self ≡ c.push-3.new.self ++ style = c.in_ok-push-4.ensures ∙ ap (λ (t : Text). c.push-3.new.self ++ t) c.style.ensures in
     let six : c.push-4.new.self ≡ s ++ g = pushed s c.push-3.new.self c.push-4.new.self f style five styled in
-    on_ok_weaker c.push-5.result (pushed s c.push-4.new.self c.push-5.new.self g (codes "</style>\n</head>\n") six) c.push-5.ensures
+    on_ok_weaker c.push-5.result (pushed s c.push-4.new.self c.push-5.new.self g (codes "</style>\n") six) c.push-5.ensures

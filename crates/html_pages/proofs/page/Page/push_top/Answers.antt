@@ -12,7 +12,7 @@ returns c =
     let s : Text = c.args.self.now in
     let site : Text = escaped c.args.site.now in
     let heading : Text = escaped c.args.heading.now in
-    let a : Text = codes "<body>\n<main>\n<p class=\"site\">" in
+    let a : Text = codes "</head>\n<body>\n<main>\n<p class=\"site\">" in
     let b : Text = a ++ site in
     let d : Text = b ++ codes "</p>\n<h1>" in
     let e : Text = d ++ heading in

@@ -67,7 +67,7 @@ note-requires-clause-turn g c =
     (record {
       begins = g.met.P.Provides.begins;
       beginnings = λ front rest l. g.met.P.Core.beginnings_are_legal (g.P.Core.setup inside.inner) front rest l;
-      provider = λ l legal. g.met.P.Provides.is_provider inside.inner l legal;
+      provider = λ l legal. (g.met.P.Provides.is_provider inside.inner l legal).past;
       adds = λ l p legal. g.met.P.Provides.adds_what_it_gives (g.P.Core.setup inside.inner) l p legal;
     })
     changes.begun
@@ -98,7 +98,7 @@ note-requires-clause-code g c =
     (record {
       begins = g.met.P.Provides.begins;
       beginnings = λ front rest l. g.met.P.Core.beginnings_are_legal (g.P.Core.setup inside.inner) front rest l;
-      provider = λ l legal. g.met.P.Provides.is_provider inside.inner l legal;
+      provider = λ l legal. (g.met.P.Provides.is_provider inside.inner l legal).past;
       adds = λ l p legal. g.met.P.Provides.adds_what_it_gives (g.P.Core.setup inside.inner) l p legal;
     })
     changes.made (live_rows code_life code_mark_begun c.args.entry.at c.pass_on.new.codes.rows)

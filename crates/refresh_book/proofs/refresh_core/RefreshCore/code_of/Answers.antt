@@ -24,7 +24,7 @@ code-requires g c =
     (record { inner = g.P.Core.setup inside.inner; registry = inside.registry }) (g.P.Provides.provider_registry inside.inner) (record {
       begins = g.met.P.Provides.begins;
       beginnings = λ front rest l. g.met.P.Core.beginnings_are_legal (g.P.Core.setup inside.inner) front rest l;
-      provider = λ l legal. g.met.P.Provides.is_provider inside.inner l legal;
+      provider = λ l legal. (g.met.P.Provides.is_provider inside.inner l legal).past;
       adds = λ l p legal. g.met.P.Provides.adds_what_it_gives (g.P.Core.setup inside.inner) l p legal;
     }) H legal)
     c.requires)

@@ -1,10 +1,10 @@
 use Rattle.std.proofs.Common.{List, ap, ◌∙◌}
 use Rattle.sso_base.specs.Rows.{lives, live_rows}
-use Rattle.oidc_words.specs.Lives.{access_life}
+use Rattle.oidc_words.specs.Lives.{access_life, family_life}
 use Rattle.refresh_answer.specs.declared.rows.FamilyRow.{FamilyRow}
 use Rattle.refresh_answer.specs.declared.rows.RefreshRow.{RefreshRow}
 use Rattle.refresh_answer.specs.declared.rows.AccessRow.{AccessRow}
-use Rattle.refresh_answer.specs.Rows.{family_life, access_begun}
+use Rattle.refresh_answer.specs.Rows.{access_begun}
 use Rattle.refresh_rows.specs.declared.token_row.TokenRow.{TokenRow}
 use Rattle.refresh_rows.specs.TokenRows.{refresh_row, refresh_rows, is_of}
 use Rattle.refresh_rows.proofs.Lists.{map_filter}

@@ -8,7 +8,8 @@ use Rattle.core_stack.proofs.MarksHeld.{may_through}
 use Rattle.signout_answer.specs.declared.asks.EndSetup.{EndSetup}
 use Rattle.signout_answer.specs.declared.parts.Doing.TheVariants as does
 use Rattle.signout_answer.specs.declared.questions.QuestionRow.{QuestionRow}
-use Rattle.signout_answer.specs.Questions.{question_life, question_name, question_begun}
+use Rattle.oidc_words.specs.Lives.{question_life}
+use Rattle.signout_answer.specs.Questions.{question_name, question_begun}
 use Rattle.signout_answer.specs.Around.{end_weight}
 use Rattle.signout_answer.specs.Answering.{doing, SignoutSetup}
 use Rattle.signout_answer.proofs.Inside.{least_outer}

@@ -11,7 +11,8 @@ use Rattle.signout_answer.specs.declared.asks.EndAsk.{EndAsk}
 use Rattle.signout_answer.specs.declared.asks.EndReply.{EndReply}
 use Rattle.signout_answer.specs.declared.asks.EndSetup.{EndSetup}
 use Rattle.signout_answer.specs.declared.questions.QuestionRow.{QuestionRow}
-use Rattle.signout_answer.specs.Questions.{question_life, question_name, question_begun}
+use Rattle.oidc_words.specs.Lives.{question_life}
+use Rattle.signout_answer.specs.Questions.{question_name, question_begun}
 use Rattle.signout_answer.specs.Around.{IsEndAsk, ask_around, end_weight}
 use Rattle.signout_answer.specs.Answering.{doing}
 use Rattle.signout_answer.proofs.Inside.{least_outer}

@@ -1,6 +1,6 @@
 use Rattle.std.proofs.Common.{◌≡◌, ◌+◌, not, filter, length}
 use Rattle.held_rows.specs.Index.{IsStored, stored_rows, stored_capacity}
-use Rattle.held_rows.proofs.stored.Stored.take_out.Given as goal
+use Rattle.held_rows.proofs.stored.Stored.take_each.Given as goal
 
 -- those that don't pass are as they were, and those that pass are counted or still there
 abbrev pub invariant-loop-slot : goal.invariant-loop-slot

@@ -2,7 +2,7 @@ use Rattle.std.proofs.Common.{◌≤◌, length, ap, sym, ◌∙◌, arith}
 use Rattle.held_rows.specs.Index.{row_at, stored_rows}
 use Rattle.held_rows.proofs.Ends.{all_stay, none_pass, passed_out}
 use Rattle.held_rows.proofs.HeldLaws.{filter_short}
-use Rattle.held_rows.proofs.stored.Stored.take_out.Goals as goal
+use Rattle.held_rows.proofs.stored.Stored.take_each.Goals as goal
 
 -- no more pass than rows are held
 pub overflow_add-count : goal.overflow_add-count
