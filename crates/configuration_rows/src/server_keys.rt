@@ -81,7 +81,13 @@ pub(crate) fn server_keys(
         Version::First => Ok(()),
         Version::Second => {
             let row = Row::Provider;
-            optional(refusals, row, values, "cookies", Kind::Text(TextRule::Cookies))?;
+            optional(
+                refusals,
+                row,
+                values,
+                "cookies",
+                Kind::Text(TextRule::Cookies),
+            )?;
             issuer_rule(refusals, host_cookies(version, values), values)?;
             workers_key(refusals, row, values)
         }

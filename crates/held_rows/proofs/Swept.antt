@@ -228,18 +228,18 @@ module _ {R : Type 0} (p : R → Bool) (old : SlotList (Issued R)) where
         let is_one = step.one e in
         record {
           done = λ t there. (let parts = count_last t seen slot in
-            elim (same_or_other t slot) [
-              | inl same ↦
-                  (let N : ℕ → Option (Issued R) = get new in
-                  let L : ℕ → Option (Issued R) = λ x. left p (get old x) in
-                  ap N same.0 ∙ changes.changed ∙ sym (left_hit p (get old slot) hits) ∙ sym (ap L same.0))
-              | inr other ↦ (let off = other.1 in changes.others t other.0 ∙ so_far.done t (omega (arith, parts, off, there)))
-            ]);
+              elim (same_or_other t slot) [
+                | inl same ↦
+                    (let N : ℕ → Option (Issued R) = get new in
+                    let L : ℕ → Option (Issued R) = λ x. left p (get old x) in
+                    ap N same.0 ∙ changes.changed ∙ sym (left_hit p (get old slot) hits) ∙ sym (ap L same.0))
+                | inr other ↦ (let off = other.1 in changes.others t other.0 ∙ so_far.done t (omega (arith, parts, off, there)))
+              ]);
           rest = λ t none. (let parts = count_last t seen slot in
-            elim (same_or_other t slot) [
-              | inl same ↦ (let on = same.1 in absurd (omega (arith, parts, on, none)))
-              | inr other ↦ (let off = other.1 in changes.others t other.0 ∙ so_far.rest t (omega (arith, parts, off, none)))
-            ]);
+              elim (same_or_other t slot) [
+                | inl same ↦ (let on = same.1 in absurd (omega (arith, parts, on, none)))
+                | inr other ↦ (let off = other.1 in changes.others t other.0 ∙ so_far.rest t (omega (arith, parts, off, none)))
+              ]);
           counted = omega (arith, many, counted, is_one);
           values = omega (arith, one_less, values, is_one);
           capacity = step.capacity ∙ so_far.capacity;
@@ -258,13 +258,13 @@ module _ {R : Type 0} (p : R → Bool) (old : SlotList (Issued R)) where
         let reads : (t : ℕ) → get new t ≡ get mid t = λ t. (let G : SlotList (Issued R) → Option (Issued R) = λ s. get s t in ap G same_slots) in
         record {
           done = λ t there. (let parts = count_last t seen slot in
-            elim (same_or_other t slot) [
-              | inl same ↦
-                  (let M : ℕ → Option (Issued R) = get mid in
-                  let L : ℕ → Option (Issued R) = λ x. left p (get old x) in
-                  reads t ∙ ap M same.0 ∙ so_far.rest slot unseen ∙ sym (left_miss p (get old slot) misses) ∙ sym (ap L same.0))
-              | inr other ↦ (let off = other.1 in reads t ∙ so_far.done t (omega (arith, parts, off, there)))
-            ]);
+              elim (same_or_other t slot) [
+                | inl same ↦
+                    (let M : ℕ → Option (Issued R) = get mid in
+                    let L : ℕ → Option (Issued R) = λ x. left p (get old x) in
+                    reads t ∙ ap M same.0 ∙ so_far.rest slot unseen ∙ sym (left_miss p (get old slot) misses) ∙ sym (ap L same.0))
+                | inr other ↦ (let off = other.1 in reads t ∙ so_far.done t (omega (arith, parts, off, there)))
+              ]);
           rest = λ t none. (let parts = count_last t seen slot in reads t ∙ so_far.rest t (omega (arith, parts, none)));
           counted = omega (arith, many, counted, is_none);
           values = omega (arith, value_same, values, is_none);

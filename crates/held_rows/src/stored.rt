@@ -96,11 +96,7 @@ fn passes_in<R: Row, T: Test<R>>(slots: &SlotVec<Issued<R>>, slot: u16, test: &T
 }
 
 // Removes the row in a slot, if it passes the test, and returns whether it does as a number. The indices still have the slot.
-fn empty_slot<R: Row + Drop, T: Test<R>>(
-    slots: &mut SlotVec<Issued<R>>,
-    slot: u16,
-    test: &T,
-) -> u32
+fn empty_slot<R: Row + Drop, T: Test<R>>(slots: &mut SlotVec<Issued<R>>, slot: u16, test: &T) -> u32
     ensures { IsEmptied (T.passes test.now) slots.old slots.new slot result }
 {
     if !passes_in(slots, slot, test) {

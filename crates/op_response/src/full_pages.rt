@@ -329,13 +329,7 @@ pub(crate) fn table_page(alloc: Global, registry: &Registry) -> Result<Option<Bl
     }
     let heading = "Please come back later";
     let advice = "Too many people are signing in. Please wait for some minutes and begin again.";
-    Ok(Some(notice_page(
-        alloc,
-        registry.title(),
-        heading,
-        advice,
-        "full",
-    )?))
+    Ok(Some(notice_page(alloc, registry.title(), heading, advice, "full")?))
 }
 
 fn missing_advice(alloc: Global) -> Result<Text, NoMemory>

@@ -171,7 +171,13 @@ impl<'a, R: Net<Stream = TcpStream> + Clock + Sync + AllocGlobal> Link for TcpLi
         let Ok(mut back) = vec![in alloc; 0u8; most] else {
             return Err(LinkNo::NoMemory);
         };
-        match exchange_within(self.rt, &self.names, to.as_str(), asked, back.as_mut_slice()) {
+        match exchange_within(
+            self.rt,
+            &self.names,
+            to.as_str(),
+            asked,
+            back.as_mut_slice(),
+        ) {
             Some(count) => {
                 back.truncate(count);
                 Ok(Blob::from_vec(back))

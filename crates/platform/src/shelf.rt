@@ -72,7 +72,12 @@ fn read_front<F: Read>(alloc: Global, file: &mut F, most: usize) -> Result<Vec<u
 }
 
 /// The first `most` bytes of the file with this name.
-pub(crate) fn read_file<R: Files>(alloc: Global, files: &R, name: &Text, most: usize) -> Result<Blob, ShelfNo>
+pub(crate) fn read_file<R: Files>(
+    alloc: Global,
+    files: &R,
+    name: &Text,
+    most: usize,
+) -> Result<Blob, ShelfNo>
     ensures { IfOk result (λ bytes. length bytes ≤ most) }
 {
     match std::fs::open(files, name.as_str()) {

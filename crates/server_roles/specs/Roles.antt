@@ -6,7 +6,7 @@ use Rattle.sso_base.specs.declared.http.HttpReply.{HttpReply}
 use Rattle.sso_base.specs.declared.message.Message.{Message}
 use Rattle.sso_base.specs.declared.message.Answered.{Answered}
 use Rattle.client_registry.specs.Configuration.{Configuration}
-use Rattle.client_registry.specs.Numbers.{party_name}
+use Rattle.client_registry.specs.Numbers.{party_name, party_row}
 use Rattle.op_exchange.specs.declared.ask.OpAsk.{OpAsk}
 use Rattle.op_exchange.specs.declared.ask.OpAsk.TheVariants as op_ask
 use Rattle.op_exchange.specs.Held as op_held
@@ -20,15 +20,6 @@ use Rattle.rp_exchange.specs.Held as rp_held
 use Rattle.rp_response.specs.Cookies as rp_cookies
 use Rattle.core_stack.specs.declared.sending.Sending.{Sending}
 use Rattle.serving.specs.Manner.{Manner}
-
--- ---- workers
-
--- how many workers a provider has, and the relying party with a number
-abbrev pub provider_workers : Configuration → ℕ
-provider_workers c = 4
-
-abbrev pub party_workers : Configuration → ℕ → ℕ
-party_workers c n = 4
 
 -- ---- the provider
 
@@ -56,7 +47,7 @@ provider_manner plain notices prepared from_op http weighs c = record {
   http = http c;
   takes = λ asked. not c.lasting || is_small_if (plain asked);
   weighs = weighs;
-  workers = provider_workers c;
+  workers = c.settings.workers;
 }
 
 -- ---- the relying party with a number
@@ -91,5 +82,5 @@ party_manner plain told sent prepared tokens info from_rp http weighs c n = reco
   http = http c n;
   takes = λ asked. not c.lasting || rp_held.is_small (plain asked);
   weighs = weighs;
-  workers = party_workers c n;
+  workers = (party_row c n).settings.workers;
 }

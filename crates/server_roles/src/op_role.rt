@@ -2,7 +2,7 @@
 
 ghost use Rattle.std.specs.Prelude.{◌≡◌};
 ghost use Rattle.std.specs.Option.{option_copied};
-ghost use Rattle.server_roles.specs.Roles.{is_small_if, provider_workers};
+ghost use Rattle.server_roles.specs.Roles.{is_small_if};
 
 use client_registry::Registry;
 use core_stack::Provides;
@@ -29,13 +29,6 @@ fn is_small_if(ask: Option<&OpAsk>) -> bool
         Some(ask) => is_small(ask),
         None => true,
     }
-}
-
-// How many workers serve the provider of a registry.
-fn provider_workers(_registry: &Registry) -> u32
-    ensures { result ≡ provider_workers _registry.now }
-{
-    4
 }
 
 impl<'a, P: Provides + Send + Sync> Role for OpRole<'a, P> {
@@ -80,7 +73,7 @@ impl<'a, P: Provides + Send + Sync> Role for OpRole<'a, P> {
     }
 
     fn workers(&self) -> u32 {
-        provider_workers(self.registry)
+        self.registry.workers()
     }
 
     fn takes(&self, ask: &P::Ask) -> bool {

@@ -1,8 +1,5 @@
 // A core that a relying party is in, as a role.
 
-ghost use Rattle.std.specs.Prelude.{◌≡◌, ◌<◌, length};
-ghost use Rattle.server_roles.specs.Roles.{party_workers};
-
 use client_registry::Registry;
 use core_stack::{Relies, Sending};
 use rp_exchange::{RpAsk, RpReply, is_small};
@@ -18,14 +15,6 @@ pub struct RpRole<'a, P> {
     pub registry: &'a Registry,
     pub party: u32,
     pub core: PhantomData<P>,
-}
-
-// How many workers serve the party with this number in a registry.
-fn party_workers(_registry: &Registry, _party: u32) -> u32
-    requires { _party < length _registry.now.parties }
-    ensures { result ≡ party_workers _registry.now _party }
-{
-    4
 }
 
 impl<'a, P: Relies + Send + Sync> Role for RpRole<'a, P> {
@@ -83,7 +72,7 @@ impl<'a, P: Relies + Send + Sync> Role for RpRole<'a, P> {
     }
 
     fn workers(&self) -> u32 {
-        party_workers(self.registry, self.party)
+        self.registry.party(self.party).settings.workers
     }
 
     fn takes(&self, ask: &P::Ask) -> bool {

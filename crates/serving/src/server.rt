@@ -71,10 +71,7 @@ where
 }
 
 // Drops the desks after the first ones.
-fn keep_first<D: Door, L: Link, C: Clock, W: Draw>(
-    desks: &mut Vec<Desk<D, L, C, W>>,
-    count: usize,
-)
+fn keep_first<D: Door, L: Link, C: Clock, W: Draw>(desks: &mut Vec<Desk<D, L, C, W>>, count: usize)
     ensures items { desks.new.items ≡ take count desks.old.items }
     ensures count { length desks.new.items ≡ min (length desks.old.items) count }
 {
