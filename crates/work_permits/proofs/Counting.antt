@@ -1,12 +1,12 @@
 -- Each step on the table of permits keeps its rule.
-use Rattle.std.proofs.Common.{◌≡◌, ◌≢◌, ℕ, zero, suc, ◌+◌, ◌-◌, ◌%◌, ◌^◌, ◌<◌, ◌≤◌, Bool, true, false, eqb, List, [], ◌∷◌, ◌++◌, get_or, set, sym, refl, ap, ◌∙◌, subst, arith, length-set, get_or-set_same, eq-eqb, ne_eqb}
+use Rattle.std.proofs.Common.{◌≡◌, ℕ, zero, suc, ◌+◌, ◌-◌, ◌%◌, ◌^◌, ◌<◌, ◌≤◌, false, eqb, List, [], ◌∷◌, ◌++◌, get_or, set, sym, refl, ap, ◌∙◌}
+use Rattle.std.proofs.Common.{subst, arith, length-set, get_or-set_same, eq-eqb, ne_eqb}
 use mathlib.Core.Logic.{dite}
 use mathlib.Core.Option.{none, some, some-injective, some-ne-none}
 use native.Mathlib.Decide.{ℕ_discrete}
 use lib.ListN.{get_elem?}
 use prog.Atomic.{either}
 use Rattle.atomic_table.specs.Table.{State, Me, step, keeps, stepped, opening, Allows, Enters}
-use Rattle.atomic_table.proofs.Lists.{set_again}
 use Rattle.work_permits.specs.declared.holder.Holder.{Holder}
 use Rattle.work_permits.specs.Rule.{nobody, holding, turned_away, one_if, holding_in, KeepsCount}
 use Rattle.work_permits.specs.Steps.{Sits, Looks, Takes, Gives}
@@ -28,7 +28,8 @@ Mine = Me (Unit {0}) Holder
 abbrev St : Type 0
 St = State (Unit {0}) Holder
 
-placed : (most : ℕ) (s : St) (k : KeepsCount most s) (n id : ℕ) (me : Mine) (w : Holder) → holding_in (set s.views id w) ≡ n → n ≤ most → KeepsCount most (stepped s 0 n id me.1 w keeps)
+placed : (most : ℕ) (s : St) (k : KeepsCount most s) (n id : ℕ) (me : Mine) (w : Holder) → holding_in (set s.views id w) ≡ n → n ≤ most
+    → KeepsCount most (stepped s 0 n id me.1 w keeps)
 placed most s k n id me w is few =
     let wide = k.one in
     let less : holding_in (set s.views id w) ≤ most = omega arith in
@@ -85,7 +86,8 @@ takes most slots id me old is_nobody room s k _ at _ =
       ((λ hit. absurd (miss hit)), λ _. refl),
     ))
 
-pub gives : (most slots id : ℕ) (me : Mine) → me.0 ≡ holding most → Allows (KeepsCount most) slots id me 0 (λ x. (x + (2 ^ 64 - 1)) % 2 ^ 64) (Gives (step slots 0 1 0 none) me)
+pub gives : (most slots id : ℕ) (me : Mine) → me.0 ≡ holding most
+    → Allows (KeepsCount most) slots id me 0 (λ x. (x + (2 ^ 64 - 1)) % 2 ^ 64) (Gives (step slots 0 1 0 none) me)
 gives most slots id me is_holding s k _ at small =
     let x : ℕ = get_or s.words 0 0 in
     let w : Holder = nobody me.0.most in

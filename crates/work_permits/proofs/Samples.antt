@@ -1,5 +1,5 @@
 -- The definitions on small numbers of permits and of workers.
-use Rattle.std.proofs.Common.{◌≡◌, ℕ, ◌≤◌, true, false, [], ◌∷◌, refl, ap, arith}
+use Rattle.std.proofs.Common.{◌≡◌, ◌≤◌, true, false, [], ◌∷◌, refl, ap, arith}
 use Rattle.atomic_table.specs.Table.{step}
 use mathlib.Core.Option.{none}
 use Rattle.work_permits.specs.declared.holder.Holder.{Holder}

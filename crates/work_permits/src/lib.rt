@@ -8,6 +8,7 @@
 //! | `holder` | what a seat at the table of permits knows, for contracts only |
 //! | `rule` | the rule of permits, and the kinds of steps on their table |
 //! | `permits` | [`Permits`], [`Permit`] and [`AllTaken`] |
+//! | `taking` | permits are taken and given back |
 //! | `gate` | [`Gate`] and [`Entered`], for the workers of a server |
 //!
 //! Permits are one word of the kit's `atomic_table`: the number of those that are out. One compare-and-exchange takes a permit, and
@@ -18,6 +19,7 @@ mod gate;
 mod holder;
 mod permits;
 mod rule;
+mod taking;
 
 pub use gate::{Entered, Gate};
 pub use permits::{AllTaken, Permit, Permits};
