@@ -1,9 +1,9 @@
 -- The definitions of pages, computed on small texts.
-use Rattle.std.proofs.Common.{◌≡◌, true, false, [], ◌∷◌, codes, Some, None, refl, true≢false}
+use Rattle.std.proofs.Common.{◌≡◌, [], ◌∷◌, codes, Some, None, refl, true≢false}
 use Rattle.sso_base.specs.declared.http.Kind.TheVariants.{Html}
 use Rattle.html_pages.specs.Escaping.{escaped, text_read, IsInert}
 use Rattle.html_pages.specs.Documents.{refresh, shown}
-use Rattle.html_pages.specs.Forms.{form, hidden, alert, small_line}
+use Rattle.html_pages.specs.Forms.{hidden, alert, small_line}
 use Rattle.html_pages.specs.Posting.{control_of, first_word, last_word, posted, form_posted, hidden_posted}
 
 a_page_that_is_left : refresh (codes "600") (codes "/op/login") ≡ codes "<meta http-equiv=\"refresh\" content=\"600;url=/op/login\">\n"
