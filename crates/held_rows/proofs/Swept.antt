@@ -1,5 +1,5 @@
 -- The rows that pass a test were taken out, in one pass over the slots and each index.
-use Rattle.std.proofs.Common.{◌≡◌, ◌≢◌, ◌<◌, ◌≤◌, ◌+◌, ℕ, suc, Bool, true, false, not, cond, List, [], ◌∷◌, ◌++◌, map, filter, take, drop, get_or, length, Option, Some, None, is_some, IsSome, option_and_then, unwrap_or, inl, inr, refl, sym, ◌∙◌, ap, subst, arith}
+use Rattle.std.proofs.Common.{◌≡◌, ◌<◌, ◌≤◌, ◌+◌, ℕ, Bool, true, false, not, cond, List, [], ◌∷◌, ◌++◌, map, filter, take, drop, get_or, length, Option, Some, None, is_some, option_and_then, unwrap_or, inl, inr, refl, sym, ◌∙◌, ap, subst, arith}
 use Rattle.std.specs.List.{AllByRecursion, filter_map, cons_option}
 use Rattle.std.specs.Cmp.Lexicographic.{slice_cmp}
 use Rattle.std.specs.Ordering.{nat_cmp}
@@ -15,8 +15,8 @@ use Rattle.held_rows.specs.declared.stored.Stored.{Stored}
 use Rattle.held_rows.specs.Counts.{count, Lists}
 use Rattle.held_rows.specs.Held.{IsHeld}
 use Rattle.held_rows.specs.Index.{issued_row, issued_serial, row_at, serial_at, rows_at, left, hit_of, hit, has_row, IsEmptied, rank, key_in, rank_in, IsAscending, IsIndex, IsRising, IsBounded, IsStored, HasMemoryFor, stored_rows, stored_capacity}
-use Rattle.held_rows.specs.SlotList.{SlotList, get, value_count, Changes}
-use Rattle.held_rows.proofs.Counts.{one, same_or_other, count-append, map_same, row_listed, listed_row, length-rows}
+use Rattle.held_rows.specs.SlotList.{SlotList, get, value_count}
+use Rattle.held_rows.proofs.Counts.{one, same_or_other, count-append, map_same, row_listed, length-rows}
 use Rattle.held_rows.proofs.HeldLaws.{held_filter, filter_short}
 use Rattle.held_rows.proofs.Hits.{count_hits}
 use Rattle.held_rows.proofs.Parts.{as_many}

@@ -7,7 +7,8 @@ ghost use Rattle.std.specs.List.{list_any};
 ghost use Rattle.sso_base.specs.Rows.{row_of, live_rows};
 ghost use Rattle.held_rows.specs.Held as spec;
 ghost use Rattle.held_rows.specs.Counts.{Lists};
-ghost use Rattle.held_rows.specs.Index.{row_at, serial_at, IsIndex, IsRising, IsStored, IsRemoved, IsReplaced, stored_rows, stored_capacity, rows_at, left, hit, IsEmptied, IsRowAt, IsOverAt};
+ghost use Rattle.held_rows.specs.Index.{row_at, serial_at, IsIndex, IsRising, IsStored, IsRemoved, IsReplaced, stored_rows, stored_capacity};
+ghost use Rattle.held_rows.specs.Index.{rows_at, left, hit, IsEmptied, IsRowAt, IsOverAt};
 ghost use Rattle.held_rows.specs.SlotList.{HasValue, get, value_count};
 
 use crate::index::{is_at, keep_held, put_in, start, take_from};

@@ -1,5 +1,5 @@
 -- A text is opened if and only if it is sealed.
-use Rattle.std.proofs.Common.{◌≡◌, ℕ, ◌≤◌, List, [], ◌∷◌, ◌++◌, length, Option, Some, None, option_map, option_and_then, is_some, Result, Ok, Bool, true, false, not, nat_eq, nat_lt, cond, codes, refl, sym, ap, ◌∙◌, arith, true≢false, subst, append_assoc}
+use Rattle.std.proofs.Common.{◌≡◌, ℕ, ◌≤◌, List, [], ◌∷◌, ◌++◌, length, Option, Some, None, option_map, is_some, Result, Ok, Bool, true, false, not, nat_eq, nat_lt, cond, codes, refl, sym, ap, ◌∙◌, arith, true≢false, subst, append_assoc}
 use Rattle.std.specs.Prelude.{unwrap_or}
 use Rattle.std.specs.List.{list_all}
 use Rattle.std.specs.Str.{bytes_eq}
@@ -9,7 +9,7 @@ use Rattle.serde_json.specs.Data.{Data}
 use Rattle.serde_json.specs.Find.{get}
 use Rattle.hmac256.specs.Hmac.{hmac_of}
 use Rattle.hmac256.proofs.Facts.{all_bytes-hmac, length-hmac}
-use Rattle.sso_base.specs.Base64Url.{b64u, unb64u, unb64u_32}
+use Rattle.sso_base.specs.Base64Url.{b64u, unb64u_32}
 use Rattle.sso_base.proofs.Spelling.{unb64u_some, unb64u-b64u, unb64u_32_some, unb64u_32-b64u, b64u_inj, b64u_no_dot, is_no_dot, both_true, IsBytes-from_all_bytes}
 use Rattle.jws_compact.specs.declared.no.JwsNo.{JwsNo}
 use Rattle.jws_compact.specs.declared.unsealing.Unsealed.{Unsealed}
@@ -83,25 +83,6 @@ verdict_sealed k t u e =
       refl,
     )
 
--- so its payload does not depend on the key
-pub verdict_payload : (k t : List ℕ) (u : Unsealed) → verdict k t ≡ Ok u → payload_in t ≡ Some u.payload
-unfolding verdict payload_in
-verdict_payload k t u e =
-    let long = forbid_ok _ _ _ _ e in
-    let three = demand_ok _ _ _ _ long.1 in
-    let header = demand_ok _ _ _ _ three.2 in
-    let payload = demand_ok _ _ _ _ header.2 in
-    let mac = demand_ok _ _ _ _ payload.2 in
-    let object = demand_ok _ _ _ _ mac.2 in
-    let alg = forbid_ok _ _ _ _ object.2 in
-    let crit = forbid_ok _ _ _ _ alg.1 in
-    let good = forbid_ok _ _ _ _ crit.1 in
-    let same : opened header.0 payload.0 ≡ u = ok_same _ _ good.1 in
-    let C : Bool → Option (List ℕ) = λ b. cond b None (option_and_then (λ s. unb64u s.1) (three_parts t)) in
-    let T : Option Triple → Option (List ℕ) = λ o. option_and_then (λ s. unb64u s.1) o in
-    let P : Unsealed → Option (List ℕ) = λ v. Some v.payload in
-    ap C long.0 ∙ ap T three.1 ∙ payload.1 ∙ ap P same
-
 -- ---- the other way
 
 not_past : (n : ℕ) → n ≤ 8192 → nat_lt 8192 n ≡ false
@@ -143,6 +124,14 @@ same_mac m = rw ((bytes_eq-Decides m m).1 refl)
 
 three_of_sealed : (k h p t : List ℕ) → Sealed k h p t → three_parts t ≡ Some (b64u h, b64u p, b64u (hmac_of k (signing_input h p)))
 three_of_sealed k h p t s = rw s.text (three_of (b64u h) (b64u p) (b64u (hmac_of k (signing_input h p))) (b64u_no_dot h) (b64u_no_dot p) (b64u_no_dot _))
+
+-- the payload of a sealed text does not depend on the key
+sealed_payload : (k h p t : List ℕ) → Sealed k h p t → payload_in t ≡ Some p
+unfolding payload_in
+sealed_payload k h p t s = rw (not_past (length t) s.short, three_of_sealed k h p t s, unb64u-b64u p s.payload_bytes)
+
+pub verdict_payload : (k t : List ℕ) (u : Unsealed) → verdict k t ≡ Ok u → payload_in t ≡ Some u.payload
+verdict_payload k t u e = let opens = verdict_sealed k t u e in sealed_payload k opens.0 u.payload t opens.1
 
 -- what is sealed is read
 pub sealed_verdict : (k h p t : List ℕ) → Sealed k h p t → verdict k t ≡ Ok (opened h p)

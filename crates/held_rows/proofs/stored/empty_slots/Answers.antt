@@ -7,16 +7,18 @@ loop-place-init g c = none_emptied (g.T.Test.passes c.args.test.now) c.args.slot
 
 pub overflow_add-count : goal.overflow_add-count
 overflow_add-count g c =
+    let low = c.loop-place-test.true in
     let few : length c.args.by_issue.now.items ≤ 65536 = c.requires.few in
     let after = next_emptied (g.T.Test.passes c.args.test.now) c.args.slots.now c.loop-place.slots c.empty_slot-emptied.new.slots c.args.by_issue.now.items c.loop-place.place c.loop-place.count c.index-slot.result.now c.empty_slot-emptied.result
-    c.requires.issued c.loop-place-test.true c.index-slot.ensures c.loop-place.invariant c.empty_slot-emptied.ensures in
+    c.requires.issued (omega (arith, low)) c.index-slot.ensures c.loop-place.invariant c.empty_slot-emptied.ensures in
     let most = few_emptied (g.T.Test.passes c.args.test.now) c.args.slots.now c.empty_slot-emptied.new.slots c.args.by_issue.now.items _ _ after in
     omega (arith, few, most)
 
 pub loop-place-preserved : goal.loop-place-preserved
 loop-place-preserved g c =
+    let low = c.loop-place-test.true in
     next_emptied (g.T.Test.passes c.args.test.now) c.args.slots.now c.loop-place.slots c.empty_slot-emptied.new.slots c.args.by_issue.now.items c.loop-place.place c.loop-place.count c.index-slot.result.now c.empty_slot-emptied.result
-    c.requires.issued c.loop-place-test.true c.index-slot.ensures c.loop-place.invariant c.empty_slot-emptied.ensures
+    c.requires.issued (omega (arith, low)) c.index-slot.ensures c.loop-place.invariant c.empty_slot-emptied.ensures
 
 pub returns-clause-left : goal.returns-clause-left
 returns-clause-left g c =
