@@ -473,14 +473,14 @@ title-is_ignored_in_version_1 = refl
 abbrev with_cookies : List ℕ → List ℕ → Data
 with_cookies issuer cookies = table (member (codes "issuer") (string issuer) (member (codes "cookies") (string cookies) no_members))
 
-cookies-that_are_plain : server_keys Second (with_cookies (codes "http://a.b") (codes "plain")) ≡ []
+cookies-that_are_plain : server_keys Second (with_cookies (codes "http://localhost") (codes "plain")) ≡ []
 cookies-that_are_plain = refl
 
 cookies-of_a_host : server_keys Second (with_cookies (codes "https://a.b") (codes "host")) ≡ []
 unfolding url_on_literals parts_of
 cookies-of_a_host = refl
 
-cookies-of_a_host_over_http : server_keys Second (with_cookies (codes "http://a.b") (codes "host")) ≡ no.WrongKind (codes "provider.cookies") ∷ []
+cookies-of_a_host_over_http : server_keys Second (with_cookies (codes "http://localhost") (codes "host")) ≡ no.WrongKind (codes "provider.cookies") ∷ []
 unfolding url_on_literals parts_of
 cookies-of_a_host_over_http = refl
 
@@ -511,10 +511,10 @@ workers-of_another_kind = refl
 workers-are_ignored_in_version_1 : server_keys First (table (member (codes "cookies") (boolean true) (member (codes "workers") (boolean true) no_members))) ≡ []
 workers-are_ignored_in_version_1 = refl
 
-workers-of_a_party_are_ignored_in_version_1 : party_keys First true (Party 0) (table (member (codes "redirect_uri") (string (codes "http://a.b/cb")) (member (codes "workers") (boolean true) no_members))) ≡ []
+workers-of_a_party_are_ignored_in_version_1 : party_keys First true (Party 0) (table (member (codes "redirect_uri") (string (codes "http://localhost/cb")) (member (codes "workers") (boolean true) no_members))) ≡ []
 workers-of_a_party_are_ignored_in_version_1 = refl
 
-cookies-at_a_party_over_http : party_keys Second true (Party 0) (one (codes "redirect_uri") (string (codes "http://a.b/cb"))) ≡ no.BadUrl (path_text (Party 0) (codes "redirect_uri")) ∷ []
+cookies-at_a_party_over_http : party_keys Second true (Party 0) (one (codes "redirect_uri") (string (codes "http://localhost/cb"))) ≡ no.BadUrl (path_text (Party 0) (codes "redirect_uri")) ∷ []
 unfolding url_on_literals parts_of
 cookies-at_a_party_over_http = refl
 

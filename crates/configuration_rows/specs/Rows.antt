@@ -278,6 +278,9 @@ array_value key (Some d) = note_if (not (is_some (as_array d))) (no.WrongKind ke
 abbrev pub array_rule : List ℕ → Data → List RegNo
 array_rule key root = array_value key (get key root)
 
+abbrev pub provider_rows : Data → List RegNo
+provider_rows root = provider_row (version_in root) (table_at (codes "provider") root)
+
 abbrev pub users_rows : Data → List RegNo
 users_rows root = array_rule (codes "user") root ++ each user_row (rows_at (codes "user") root)
 
@@ -297,7 +300,7 @@ parties_rows root =
 -- URLs that violate theirs
 unfoldable pub rows_refusals : Data → List RegNo
 rows_refusals root =
-    provider_row (version_in root) (table_at (codes "provider") root)
+    provider_rows root
     ++ users_rows root
     ++ clients_rows root
     ++ parties_rows root

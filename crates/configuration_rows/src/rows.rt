@@ -347,6 +347,20 @@ fn party_rows(
     Ok(())
 }
 
+// Checks the provider of a configuration.
+fn provider(
+    refusals: &mut Refusals,
+    version: Version,
+    root: &Value,
+    empty: &Value,
+) -> Result<(), NoMemory>
+    requires version { version ≡ version_in (view root.now) }
+    requires empty { view empty.now ≡ table no_members }
+    ensures { OnOk result (refusals.new ≡ refusals.old ++ spec.provider_rows (view root.now)) }
+{
+    provider_row(refusals, version, table_at(root, "provider", empty))
+}
+
 // Checks the users of a configuration: their array, and its rows. So it is for clients and parties.
 fn users(refusals: &mut Refusals, root: &Value) -> Result<(), NoMemory>
     ensures { OnOk result (refusals.new ≡ refusals.old ++ spec.users_rows (view root.now)) }
@@ -371,14 +385,15 @@ fn clients(refusals: &mut Refusals, version: Version, root: &Value) -> Result<()
 fn parties(
     refusals: &mut Refusals,
     version: Version,
-    host: bool,
     root: &Value,
+    empty: &Value,
 ) -> Result<(), NoMemory>
     requires version { version ≡ version_in (view root.now) }
-    requires host { host ≡ spec.host_cookies_in (view root.now) }
+    requires empty { view empty.now ≡ table no_members }
     ensures { OnOk result (refusals.new ≡ refusals.old ++ spec.parties_rows (view root.now)) }
 {
     array(refusals, root, "party")?;
+    let host = host_cookies(version, table_at(root, "provider", empty));
     party_rows(
         refusals,
         version,
@@ -400,9 +415,8 @@ pub fn judge_rows(
     requires empty { view empty.now ≡ table no_members }
     ensures { OnOk result (refusals.new ≡ refusals.old ++ spec.rows_refusals (view root.now)) }
 {
-    let provider = table_at(root, "provider", empty);
-    provider_row(refusals, version, provider)?;
+    provider(refusals, version, root, empty)?;
     users(refusals, root)?;
     clients(refusals, version, root)?;
-    parties(refusals, version, host_cookies(version, provider), root)
+    parties(refusals, version, root, empty)
 }
