@@ -10,7 +10,7 @@ use Rattle.client_keys.specs.Opening.{opening}
 use Rattle.id_token.specs.declared.claims.IdClaims.{IdClaims}
 use Rattle.id_token.specs.declared.no.IdNo.{IdNo}
 use Rattle.id_token.specs.Reading.{audience_in}
-use Rattle.id_token.proofs.Naming.{id_read-audience}
+use Rattle.id_token.proofs.Audience.{id_read-audience}
 use Rattle.end_request.specs.Hints.{id_read_for, is_for, is_hint_for, names, may_be, fits}
 
 named_by : (issuer id hint : Text) (read : Result IdClaims IdNo) → ((x : IdClaims) → read ≡ Ok x → audience_in hint ≡ Some x.aud) → is_for issuer id read ≡ true → names (audience_in hint) id ≡ true

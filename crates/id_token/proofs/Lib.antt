@@ -6,5 +6,5 @@ pub mod RoundTrip
 pub mod Written
 pub mod Tokens
 pub mod Unsealed
-pub mod Naming
+pub mod Audience
 mod Samples
