@@ -31,7 +31,7 @@ use Rattle.serving.specs.LinkCalls.{LinkCall, sending_of, after_calls, grown_by,
 use Rattle.serving.specs.Manner.{Manner, bytes_by}
 use Rattle.serving.specs.Serving.{IsPeerAnswer, IsAsked, IsUnasked, Asks, IsAskedBack, IsRun, IsLastReply, LeadsTo, LeadsToTooLarge, IsStopped, Cause, Serves}
 use Rattle.serving.specs.Steps.{Stepped, history_after, called_of, IsDrawn, IsFull, IsNoStep, Made}
-use Rattle.serving.specs.Told.{memory_bytes, bytes_without, end_of}
+use Rattle.serving.specs.Told.{memory_bytes, busy_bytes, bytes_without, end_of}
 use Rattle.serving.specs.Work.{Work, LieBehind, DrawnFrom, MadeAll, Did}
 use Rattle.serving.specs.Writing.{Wrote, WroteWithout}
 
