@@ -10,7 +10,7 @@ use std::rt::Files;
 const HOSTS: &str = "/etc/hosts";
 
 /// How many bytes of that file are read at most.
-const MOST: usize = 16_384;
+const MOST: usize = 1_048_576;
 
 /// The names that a machine knows by itself: `localhost` and those below it (RFC 6761, 6.3), and the names in its file of hosts. No
 /// other machine is asked for a name, so a look-up never waits for an answer.
