@@ -5,4 +5,4 @@ use Rattle.client_registry.proofs.rows.parties_of.Given as goal
 
 -- the records of the rows so far
 abbrev pub invariant-loop-row : goal.invariant-loop-row
-invariant-loop-row l = l.parties.items ≡ map (party_of l.clients) (map view (take l.row-index l.rows))
+invariant-loop-row l = l.parties.items ≡ map (party_of l.version l.clients) (map view (take l.row-index l.rows))
