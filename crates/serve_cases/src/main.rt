@@ -23,10 +23,10 @@
 //! | `this machine` | the exit status and the text of `op` at a desk over this machine, and its reply to a client that requests the keys |
 //! | `last|SHELF|SINK|WORDS` | the exit status for the words with no desk, how many lines the text has, and the last of them |
 //!
-//! `ends`, `busy`, `work` and `serve` use their own role, whose core is full after one request, and for which each POST proves a password. `calls`, `often` and `two threads` use only
-//! that core, which replies with the number of the entries before. In `often|lasting` its history lasts. The top call serves the
-//! provider and the parties. SHELF and SINK are the numbers of the failing calls, and 0 is none. A sink `slow CALL` takes one byte
-//! at a call.
+//! `ends`, `busy`, `work` and `serve` use their own role, whose core is full after one request, and for which each POST proves a
+//! password. `calls`, `often` and `two threads` use only that core, which replies with the number of the entries before. In
+//! `often|lasting` its history lasts. The top call serves the provider and the parties. SHELF and SINK are the numbers of the failing
+//! calls, and 0 is none. A sink `slow CALL` takes one byte at a call.
 //!
 //! | Module | What it has |
 //! |---|---|
