@@ -1,7 +1,6 @@
 -- The cookies of replies, as a user agent reads them.
-use Rattle.std.proofs.Common.{◌≡◌, Bool, true, false, not, ◌&&◌, List, [], ◌∷◌, map, codes, Option, Some, None, is_some, refl, ap, ◌∙◌}
+use Rattle.std.proofs.Common.{◌≡◌, Bool, true, false, List, [], ◌∷◌, map, codes, Option, Some, None, is_some, refl, ap, ◌∙◌}
 use Rattle.std.specs.List.{list_any}
-use Rattle.std.specs.Str.{bytes_eq}
 use Rattle.sso_base.specs.Words.{Word, Text}
 use Rattle.http_reply.specs.UserAgent.{SetCookie, is_cookie_name, cookie_read}
 use Rattle.http_reply.specs.Cookies.{cookie}

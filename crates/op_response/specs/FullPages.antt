@@ -141,7 +141,7 @@ full_table_page site =
     notice_page site (codes "Please come back later") (codes "Too many people are signing in. Please wait for some minutes and begin again.") (codes "full")
 
 -- a page to sign in that is too old leads here
-abbrev pub missing_advice : Text
+unfoldable pub missing_advice : Text
 missing_advice =
     concat (
     codes "If you were signing in, that took too long: a page to sign in works for "
@@ -149,7 +149,7 @@ missing_advice =
     ∷ codes " minutes. Please go back to the application and begin again." ∷ [])
 
 abbrev pub full_missing_page : Text → Text
-full_missing_page site = notice_page site (codes "Nothing is here") missing_advice (codes "not here")
+full_missing_page site = notice_page site (codes "Page not found") missing_advice (codes "not here")
 
 -- ---- pages in place of lines, if pages are full
 

@@ -332,6 +332,7 @@ pub(crate) fn table_page(alloc: Global, registry: &Registry) -> Result<Option<Bl
     Ok(Some(notice_page(alloc, registry.title(), heading, advice, "full")?))
 }
 
+#[tactic(auto, unfolding(crate::specs::FullPages::missing_advice))]
 fn missing_advice(alloc: Global) -> Result<Text, NoMemory>
     ensures { IfOk result (λ t. t ≡ spec.missing_advice) }
 {
@@ -344,19 +345,20 @@ fn missing_advice(alloc: Global) -> Result<Text, NoMemory>
     Ok(Text::from_string(joined(alloc, &pieces)?))
 }
 
+fn full_missing_page(alloc: Global, site: &Text) -> Result<Blob, NoMemory>
+    ensures { IfOk result (λ b. b ≡ spec.full_missing_page site.now) }
+{
+    let advice = missing_advice(alloc)?;
+    notice_page(alloc, site, "Page not found", advice.as_str(), "not here")
+}
+
 // The page of an unknown path, if pages are full. A login page that is too old leads there.
 pub(crate) fn missing_page(alloc: Global, registry: &Registry) -> Result<Option<Blob>, NoMemory>
     ensures { IfOk result (λ o. o ≡ spec.missing_page registry.now.full_pages registry.now.title) }
 {
-    if !registry.full_pages() {
-        return Ok(None);
+    if registry.full_pages() {
+        Ok(Some(full_missing_page(alloc, registry.title())?))
+    } else {
+        Ok(None)
     }
-    let advice = missing_advice(alloc)?;
-    Ok(Some(notice_page(
-        alloc,
-        registry.title(),
-        "Nothing is here",
-        advice.as_str(),
-        "not here",
-    )?))
 }

@@ -78,7 +78,7 @@ notice true site heading advice line = Some (notice_page site heading advice lin
 abbrev pub wrong_page : Bool → Text → Option Text
 wrong_page is_full site =
     notice is_full site (codes "Unclear request")
-    (codes "The application that sent you here asked in a way that this site does not accept. Nothing was changed.") (codes "error end")
+    (codes "The application that sent you here made a request that this site does not accept. Nothing was changed.") (codes "error end")
 
 abbrev pub kept_page : Bool → Text → Option Text
 kept_page is_full site = notice is_full site (codes "You stay signed in") (codes "Nothing was changed. You can close this page.") (codes "kept")
@@ -86,7 +86,7 @@ kept_page is_full site = notice is_full site (codes "You stay signed in") (codes
 abbrev pub stale_page : Bool → Text → Option Text
 stale_page is_full site =
     notice is_full site (codes "Already answered, or too late")
-    (codes "A question works once, for some minutes, and in one browser. To sign out, please begin again.") (codes "error turn")
+    (codes "This question can be answered once, within some minutes, and in the same browser. To sign out, please begin again.") (codes "error turn")
 
 -- ---- each reply
 

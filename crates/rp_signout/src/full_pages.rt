@@ -77,7 +77,7 @@ pub(crate) fn wrong_page(alloc: Global, registry: &Registry) -> Result<Option<Bl
     ensures { IfOk result (λ o. o ≡ spec.wrong_page registry.now.full_pages registry.now.title) }
 {
     let advice =
-        "The application that sent you here asked in a way that this site does not accept. Nothing was changed.";
+        "The application that sent you here made a request that this site does not accept. Nothing was changed.";
     notice(alloc, registry, "Unclear request", advice, "error end")
 }
 
@@ -95,6 +95,6 @@ pub(crate) fn stale_page(alloc: Global, registry: &Registry) -> Result<Option<Bl
 {
     let heading = "Already answered, or too late";
     let advice =
-        "A question works once, for some minutes, and in one browser. To sign out, please begin again.";
+        "This question can be answered once, within some minutes, and in the same browser. To sign out, please begin again.";
     notice(alloc, registry, heading, advice, "error turn")
 }
