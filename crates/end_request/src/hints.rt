@@ -85,6 +85,26 @@ fn fits(
     is_hint_for(alloc, issuer, hint, client)
 }
 
+// The first client that a hint with this audience fits.
+fn fitting_of(
+    alloc: Global,
+    registry: &Registry,
+    named: Option<u32>,
+    hint: &Text,
+    aud: &Option<Texts>,
+) -> Result<Option<u32>, NoMemory>
+    requires { aud.now ≡ audience_in hint.now }
+    ensures { IfOk result (λ n. n ≡ spec.fitting_from registry.now.provider.issuer named hint.now 0 registry.now.clients) }
+{
+    let issuer = registry.provider().issuer.as_str();
+    for n in 0..registry.clients() {
+        if fits(alloc, issuer, named, hint, aud, n, registry.client(n))? {
+            return Ok(Some(n));
+        }
+    }
+    Ok(None)
+}
+
 /// The first client that a hint fits: the hint is an ID Token of the provider for the client, sealed under one of the client's
 /// secrets. If the request names a client, it is that one or none. The audience is read once; only the secrets of clients in it
 /// are tried.
@@ -96,12 +116,6 @@ pub(crate) fn fitting(
 ) -> Result<Option<u32>, NoMemory>
     ensures { IfOk result (λ n. n ≡ spec.fitting_from registry.now.provider.issuer named hint.now 0 registry.now.clients) }
 {
-    let issuer = registry.provider().issuer.as_str();
     let aud = named_audience(alloc, hint.as_str().as_bytes())?;
-    for n in 0..registry.clients() {
-        if fits(alloc, issuer, named, hint, &aud, n, registry.client(n))? {
-            return Ok(Some(n));
-        }
-    }
-    Ok(None)
+    fitting_of(alloc, registry, named, hint, &aud)
 }

@@ -1,7 +1,7 @@
 use Rattle.std.proofs.Common.{◌∙◌, sym, ap, List, ℕ}
 use Rattle.end_request.specs.Hints.{fits}
 use Rattle.end_request.proofs.Loops.{fit_step, fit_stop}
-use Rattle.end_request.proofs.hints.fitting.Goals as goal
+use Rattle.end_request.proofs.hints.fitting_of.Goals as goal
 
 pub returns-then-branch : goal.returns-then-branch
 returns-then-branch c =
