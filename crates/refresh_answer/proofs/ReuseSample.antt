@@ -1,9 +1,10 @@
 -- A login by code with offline access and consent, a refresh, and then the old refresh token again, or the code: the family ends. The words
 -- are all different, so the premises of the laws are met.
-use Rattle.std.proofs.Common.{◌≡◌, ◌≤◌, ℕ, true, false, List, [], ◌∷◌, length, Option, Some, None, Ok, refl, sym, subst, inl, inr, arith}
+use Rattle.std.proofs.Common.{◌≡◌, ◌≤◌, ℕ, true, false, List, [], ◌∷◌, length, Option, Some, None, Ok, option_and_then, refl, sym, ap, ◌∙◌, subst, inl, inr, arith}
 use Rattle.std.specs.Str.{IsUtf8}
 use Rattle.sso_base.specs.Words.{Word, Text, IsWord, word_text, word_of_text, fresh_word}
 use Rattle.sso_base.specs.Base64Url.{all_bytes}
+use Rattle.sso_base.specs.Rows.{row_of}
 use Rattle.sso_base.specs.Legal.{IsEntry}
 use Rattle.sso_base.specs.declared.history.Entry.{Entry}
 use Rattle.sso_base.proofs.Spelling.{IsBytes-from_all_bytes}
@@ -23,14 +24,17 @@ use Rattle.core_stack.proofs.NewWords.{AreBelow, words_below, no_word_again}
 use Rattle.refresh_answer.specs.declared.asks.RefreshGrant.{RefreshGrant}
 use Rattle.refresh_answer.specs.declared.asks.RefreshAsk.{RefreshAsk}
 use Rattle.refresh_answer.specs.declared.asks.RefreshAsk.TheVariants as ask
+use Rattle.refresh_answer.specs.declared.asks.OwnReply.{OwnReply}
 use Rattle.refresh_answer.specs.declared.asks.OwnReply.TheVariants as own
 use Rattle.refresh_answer.specs.declared.asks.RefreshReply.{RefreshReply}
 use Rattle.refresh_answer.specs.declared.asks.RefreshReply.TheVariants.{Through, First, Own}
 use Rattle.refresh_answer.specs.declared.rows.FamilyRow.{FamilyRow}
-use Rattle.refresh_answer.specs.Rows.{new_token, old_token}
+use Rattle.refresh_answer.specs.declared.rows.RefreshRow.{RefreshRow}
+use Rattle.refresh_answer.specs.Rows.{token_name, new_token, old_token}
 use Rattle.refresh_answer.specs.Around.{Outer, IsRefreshAsk}
-use Rattle.refresh_answer.specs.Families.{tokens, families, code_presented}
-use Rattle.refresh_answer.specs.Answering.{with_first, IsRefreshReply, IsRefreshPast}
+use Rattle.refresh_answer.specs.Families.{tokens, families, code_presented, held_in, living_in}
+use Rattle.refresh_answer.specs.Answering as answering
+use Rattle.refresh_answer.specs.Answering.{refreshed_by, with_first, IsRefreshReply, IsRefreshPast}
 use Rattle.refresh_answer.specs.Laws.{HasNewWords, WasTokenOf, IsReuse, IsRepeatedCode, EndsFamily}
 
 abbrev plain : OpAsk → Option OpAsk
@@ -67,6 +71,22 @@ before = passed_pair consent_entry (Through code_answer) ∷ passed_pair login_e
 abbrev family : FamilyRow
 family = record { by = 3; code = word 15; client = 0; user = 0; scopes = profile_scopes; asked = []; begun = 1000 }
 
+-- the reply to a refresh request, by the tokens and the families before it
+answered_by : (past : List (Outer OpAsk OpReply)) (n : ℕ) (t : Text) (w : Word) (row : RefreshRow) (ts : List RefreshRow) (fs : List FamilyRow)
+    → word_of_text t ≡ Some w → tokens plain given itself past ≡ ts → families plain given itself past ≡ fs → row_of token_name w ts ≡ Some row
+    → answering.refresh_reply plain given itself past 1000 (words n) (Ok (grant t))
+    ≡ refreshed_by (held_in fs 1000 ts) (words n) (grant t) row (living_in fs 1000 row.family)
+answered_by past n t w row ts fs spells tokens_are families_are found =
+    let before : List RefreshRow = tokens plain given itself past in
+    let named : option_and_then (λ v. row_of token_name v before) (word_of_text t) ≡ Some row =
+    ap (λ o. option_and_then (λ v. row_of token_name v before) o) spells ∙ ap (λ l. row_of token_name w l) tokens_are ∙ found in
+    ap (λ o. answering.refreshed plain given itself past 1000 (words n) (grant t) o) named
+    ∙ ap (λ l. refreshed_by (held_in l 1000 before) (words n) (grant t) row (living_in l 1000 row.family)) families_are
+    ∙ ap (λ l. refreshed_by (held_in fs 1000 l) (words n) (grant t) row (living_in fs 1000 row.family)) tokens_are
+
+own_is : (o p : OwnReply) → o ≡ p → ◌≡◌ {A = RefreshReply OpReply} (Own p) (Own o)
+own_is o p same = ap (λ (x : OwnReply). Own x) (sym same)
+
 module _ (code first second : Text) (spells : word_of_text code ≡ Some (word 15)) (spells_first : word_of_text first ≡ Some (word 22)) (spells_second : word_of_text second ≡ Some (word 26)) where
   abbrev began : List (Outer OpAsk OpReply)
   began = passed_pair (token_entry 1000 code) (First (tokens_reply 1000) (word 22)) ∷ before
@@ -91,7 +111,10 @@ module _ (code first second : Text) (spells : word_of_text code ≡ Some (word 1
   family_lives : families plain given itself refreshed ≡ family ∷ []
   family_lives = rw (spells, spells_first) refl
 
-  tokens_after : tokens plain given itself refreshed ≡ old_token (new_token 3 (word 22)) ∷ new_token 3 (word 26) ∷ []
+  abbrev after_refresh : List RefreshRow
+  after_refresh = old_token (new_token 3 (word 22)) ∷ new_token 3 (word 26) ∷ []
+
+  tokens_after : tokens plain given itself refreshed ≡ after_refresh
   tokens_after = rw spells_first refl
 
   family_ended : families plain given itself (reuse ∷ refreshed) ≡ []
@@ -192,7 +215,8 @@ module _ (code first second : Text) (spells : word_of_text code ≡ Some (word 1
       ask = (omega arith, text_is_utf8 first 22 spells_first);
     },
     omega arith,
-    rw (spells, spells_first) refl,
+    own_is (answering.refresh_reply plain given itself began 1000 (words 25) (Ok (grant first))) (own.Refreshed (word 25) (word 26) profile_scopes)
+        (answered_by began 25 first (word 22) (new_token 3 (word 22)) (new_token 3 (word 22) ∷ []) (family ∷ []) spells_first refl family_began refl),
   )
 
   reuse_is_answered : IsRefreshPast plain given itself Any sample (reuse ∷ refreshed)
@@ -205,7 +229,8 @@ module _ (code first second : Text) (spells : word_of_text code ≡ Some (word 1
       ask = (omega arith, text_is_utf8 first 22 spells_first);
     },
     omega arith,
-    rw (spells, spells_first) refl,
+    own_is (answering.refresh_reply plain given itself refreshed 1000 (words 29) (Ok (grant first))) (own.Refused InvalidGrant)
+        (answered_by refreshed 29 first (word 22) (old_token (new_token 3 (word 22))) after_refresh (family ∷ []) spells_first tokens_after family_lives refl),
   )
 
   late_is_answered : IsRefreshPast plain given itself Any sample (late ∷ reuse ∷ refreshed)
@@ -218,7 +243,8 @@ module _ (code first second : Text) (spells : word_of_text code ≡ Some (word 1
       ask = (omega arith, text_is_utf8 second 26 spells_second);
     },
     omega arith,
-    rw (spells, spells_first, spells_second) refl,
+    own_is (answering.refresh_reply plain given itself (reuse ∷ refreshed) 1000 (words 33) (Ok (grant second))) (own.Refused InvalidGrant)
+        (answered_by (reuse ∷ refreshed) 33 second (word 26) (new_token 3 (word 26)) after_refresh [] spells_second tokens_after family_ended refl),
   )
 
   refusal_begins_none : (b : Option FamilyRow) (w : Word) → Through (op_reply.TokenRefused InvalidGrant) ≡ with_first b (Some (op_reply.TokenRefused InvalidGrant)) (op_reply.TokenRefused InvalidGrant) w
