@@ -66,7 +66,6 @@ use std::alloc::{AllocGlobal, Global};
 use std::io;
 use std::net::{Net, TcpListener, TcpStream};
 use std::random::RandomSource;
-use std::rt::Files;
 use std::sync::Wait;
 use std::thread::Threads;
 use std::time::Clock;
@@ -108,7 +107,7 @@ impl Cases for ServeCases {
 fn answer<R>(rt: &R, alloc: Global, cases: &mut ServeCases, line: &str) -> Result<String, NoMemory>
 where
     R: Threads + Wait + Net<Listener = TcpListener, Stream = TcpStream>,
-    R: Clock + RandomSource + Files + Sync + AllocGlobal,
+    R: Clock + RandomSource + Sync + AllocGlobal,
 {
     let whole = written_out(alloc, cases, line)?;
     let fields: Vec<&str> = whole.as_str().split('|').collect(alloc)?;

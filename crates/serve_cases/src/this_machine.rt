@@ -3,13 +3,13 @@
 use crate::files::put_bytes;
 use crate::top::{Call, run};
 use case_lines::{as_text, told, told_quoted};
-use platform::desk;
-use sso_base::{NoMemory, Text};
+use platform::{Names, RandomDraw, SystemClock, TcpDoor, TcpLink};
+use server_desk::{Desk, Tools};
+use sso_base::{Blob, NoMemory, Text};
 use std::alloc::{AllocGlobal, Global};
 use std::io::{Read, Write};
 use std::net::{Net, TcpListener, TcpStream};
 use std::random::RandomSource;
-use std::rt::Files;
 use std::sync::Wait;
 use std::thread::{Threads, join, sleep};
 use std::time::{Clock, Duration};
@@ -33,18 +33,30 @@ fn free_place<N: Net<Listener = TcpListener, Stream = TcpStream>>(
 fn run_provider<R>(rt: &R, alloc: Global, place: &str) -> Result<String, NoMemory>
 where
     R: Threads + Wait + Net<Listener = TcpListener, Stream = TcpStream>,
-    R: Clock + RandomSource + Files + Sync + AllocGlobal,
+    R: Clock + RandomSource + Sync + AllocGlobal,
 {
     let config = format!(in alloc;
         "version = 1\n[provider]\nissuer = \"http://{place}\"\nlisten = \"{place}\"\nsalt = \"00112233445566778899aabbccddeeff\"\n"
     )?;
     let mut files = Vec::new(alloc);
     put_bytes(alloc, &mut files, "config", config.as_str())?;
-    let Ok(mut one) = desk(rt) else {
+    // (it has no clients, so it sends nothing and looks no name up)
+    let names = Names::new(Blob::new(alloc, b"")?);
+    let Ok(draw) = RandomDraw::new(rt) else {
         return told(alloc, "no random bytes");
     };
-    one.turns = 1;
-    let mut desks = vec![in alloc; one]?;
+    let tools = Tools {
+        link: TcpLink::new(rt, names),
+        clock: SystemClock::new(rt),
+        draw,
+    };
+    let mut desks = vec![in alloc;
+        Desk {
+            door: TcpDoor::new(rt),
+            tools,
+            turns: 1
+        },
+    ]?;
     let call = Call {
         shelf: "0",
         sink: "0",
@@ -82,7 +94,7 @@ fn ask_keys<R: Net<Stream = TcpStream> + Clock>(
 pub fn answer<R>(rt: &R, alloc: Global) -> Result<String, NoMemory>
 where
     R: Threads + Wait + Net<Listener = TcpListener, Stream = TcpStream>,
-    R: Clock + RandomSource + Files + Sync + AllocGlobal,
+    R: Clock + RandomSource + Sync + AllocGlobal,
 {
     let Some(place) = free_place(rt, alloc)? else {
         return told(alloc, "no port is free");
